@@ -1,0 +1,13 @@
+pub mod Limits
+pub mod Numbers
+pub mod Graph
+pub mod Parts
+pub mod Search
+pub mod Sets
+pub mod Checker
+pub mod Certificate
+pub mod Paths
+pub mod Pivot
+pub mod Summary
+pub mod Refusal
+pub mod Memory
