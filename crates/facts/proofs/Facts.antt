@@ -1,0 +1,43 @@
+-- The facts of document 01, each computed from the definitions.
+use mathlib.Core.Path.{refl}
+use Rattle.graph.specs.Numbers.{some-below, least, table, many, most}
+use Rattle.graph.specs.Search.{round, within, labelOf, labels, looked}
+use Rattle.graph.specs.Sets.{word}
+use Rattle.graph.specs.Checker.{entry, check1, check2, check3, check5, fault, verdict}
+use Rattle.graph.specs.Certificate.{distOf, distances, climbed, rankOf, ranks, entries, certificate}
+use Rattle.graph.specs.Paths.{nearer, walk, pathAnswer}
+use Rattle.graph.specs.Summary.{summary, sharing}
+use Rattle.graph.specs.Refusal.{given, _or_, outside, tableRefusal}
+use Rattle.facts.specs.Facts.{Facts, Runs}
+
+pub facts : Facts
+unfolding labels labelOf within round table least some-below many word looked certificate ranks rankOf climbed distances distOf entries entry pathAnswer walk nearer
+facts =
+    record {
+      p1 = refl;
+      p2 = refl;
+      p3 = refl;
+      p4 = refl;
+      p5-in = refl;
+      p5-out = refl;
+      p6 = (refl, refl);
+      p7 = (refl, refl);
+      p8 = (refl, refl);
+      p9 = refl;
+      p9-room = refl;
+      p10 = refl;
+      p11 = refl;
+      p11-next = refl;
+    }
+
+pub runs : Runs
+unfolding within round table least some-below many most certificate ranks rankOf climbed distances distOf entries entry check1 check2 check3 check5 fault verdict summary sharing tableRefusal given _or_ outside
+runs =
+    record {
+      summary-of-T = refl;
+      columns-pass = refl;
+      five-labelled-three = refl;
+      ranks-zero = refl;
+      most-pass = refl;
+      one-more = refl;
+    }
