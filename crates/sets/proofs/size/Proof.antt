@@ -1,0 +1,62 @@
+use mathlib.Core.Path.{_≡_}
+use Prim.Native.Nat.{_≤_, _-_, _*_}
+use native.Mathlib.Omega.{arith}
+use lib.ListN.{length}
+use lib.Count.{ones-le}
+use Rattle.graph.specs.Numbers.{tally}
+use Rattle.graph.specs.Sets.{bit}
+use Rattle.sets.proofs.Sizes.{word-tally}
+use Rattle.sets.proofs.size.Statement.{statement}
+use Rattle.sets.proofs.size.Tie as tie
+
+abbrev Inv-loop : tie.InvT-loop
+Inv-loop w s₀ i₀ s i = (i ≤ length w) × (s ≡ tally (bit w) (i * 64)) × (s ≤ i * 64)
+
+abbrev μ-loop : tie.MeasureT-loop
+μ-loop w s₀ i₀ s i = length w - i
+
+loop-holds : tie.Need-loop-holds Inv-loop μ-loop
+unfolding tally
+loop-holds c = omega arith
+
+mul-s : tie.Need-mul-s Inv-loop μ-loop
+mul-s c = omega arith
+
+shared-slice-read-s : tie.Need-shared-slice-read-s Inv-loop μ-loop
+shared-slice-read-s c = omega arith
+
+cast-s : tie.Need-cast-s Inv-loop μ-loop
+cast-s c = omega (arith, ones-le 64 _ (c .shared-slice-known .given (c .before .before .loop .i) .fits))
+
+add-s : tie.Need-add-s Inv-loop μ-loop
+add-s c = omega (arith, ones-le 64 _ (c .shared-slice-known .given (c .before .before .loop .i) .fits))
+
+add-i : tie.Need-add-i Inv-loop μ-loop
+add-i c = omega arith
+
+loop-less : tie.Need-loop-less Inv-loop μ-loop
+loop-less c = omega arith
+
+loop-again : tie.Need-loop-again Inv-loop μ-loop
+loop-again c =
+    let g = c .shared-slice-known .given (c .before .before .loop .i) .fits in
+    (omega arith, omega (arith, word-tally (c .before .before .before .args .w .now) (c .before .before .loop .i) g), omega (arith, ones-le 64 _ g))
+
+returns : tie.Need-returns Inv-loop μ-loop
+returns c = let e : c .before .loop .i ≡ length (c .before .before .args .w .now) = omega arith in rw e at (c .before .loop .inv .1)
+
+pub size-spec : {M : Type 1} → statement M
+size-spec =
+    tie.close
+    (tie.spec
+    Inv-loop
+    μ-loop
+    loop-holds
+    mul-s
+    shared-slice-read-s
+    cast-s
+    add-s
+    add-i
+    loop-less
+    loop-again
+    returns)
