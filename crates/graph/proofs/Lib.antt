@@ -3,6 +3,7 @@ pub mod Counts
 pub mod Sums
 pub mod Refusals
 pub mod Memory
+pub mod Lent
 pub mod Chains
 pub mod Search
 pub mod Decompose

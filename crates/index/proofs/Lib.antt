@@ -1,0 +1,5 @@
+pub mod Zeroing
+pub mod Counts
+pub mod Place
+pub mod Moved
+pub mod Degree
