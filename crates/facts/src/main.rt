@@ -24,6 +24,24 @@ fn tables() {
     );
 }
 
+// The summary of T's labels.
+fn summaries() {
+    let label: [u32; 6] = [0, 0, 0, 3, 3, 5];
+    match summary::summary(6, &label) {
+        summary::Answer::Done {
+            own,
+            rings,
+            largest,
+        } => {
+            put(b"summary of T, own labels", own as u64);
+            put(b"summary of T, rings", rings as u64);
+            put(b"summary of T, largest", largest as u64);
+        }
+        summary::Answer::Refused(k) => put(b"summary of T refused", k as u64),
+    }
+}
+
 fn main() {
     tables();
+    summaries();
 }

@@ -1,6 +1,7 @@
 pub mod Tests
 pub mod Counts
 pub mod Sums
+pub mod Ranges
 pub mod Refusals
 pub mod Memory
 pub mod Lent
