@@ -1,0 +1,21 @@
+// The collection T: 0→1, 1→2, 2→0, 2→3, 3→4, 4→3, 5→5.
+ghost use mathlib.Core.Path.{_≡_};
+ghost use Rattle.facts.specs.Facts.{sourcesT, targetsT, labelsT};
+
+pub fn sources() -> [u32; 7]
+    ensures { λ r. ⌜ r ≡ sourcesT ⌝ }
+{
+    [0, 1, 2, 2, 3, 4, 5]
+}
+
+pub fn targets() -> [u32; 7]
+    ensures { λ r. ⌜ r ≡ targetsT ⌝ }
+{
+    [1, 2, 0, 3, 4, 3, 5]
+}
+
+pub fn labels() -> [u32; 6]
+    ensures { λ r. ⌜ r ≡ labelsT ⌝ }
+{
+    [0, 0, 0, 3, 3, 5]
+}
