@@ -28,3 +28,10 @@ pub fn row(name: &[u8], values: &[u32]) {
     }
     end();
 }
+
+pub fn refused(name: &[u8], number: u32) {
+    io::write_all(1, name);
+    io::write_all(1, b": refused");
+    item(number as u64);
+    end();
+}
