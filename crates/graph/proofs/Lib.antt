@@ -18,3 +18,4 @@ pub mod Certificate
 pub mod Verdict
 pub mod Paths
 pub mod Pivot
+pub mod Least

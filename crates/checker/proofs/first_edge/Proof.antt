@@ -1,0 +1,53 @@
+use mathlib.Core.Path.{_≡_}
+use mathlib.Core.Bool.{false, not}
+use Prim.Native.Nat.{ℕ, _≤_, _<_, _-_}
+use native.Mathlib.Omega.{arith}
+use lib.ListN.{length}
+use Rattle.graph.specs.Graph.{graph}
+use Rattle.graph.specs.Checker.{check5}
+use Rattle.checker.specs.Contract.{labelAndRank}
+use Rattle.graph.proofs.Least.{least-found, least-none}
+use borrow.Author.Count.{below-more}
+use Rattle.checker.proofs.first_edge.Statement.{statement}
+use Rattle.checker.proofs.first_edge.Tie as tie
+
+abbrev Inv-loop : tie.InvT-loop
+Inv-loop n sources targets label rank e₀ e = (e ≤ length sources) × ((j : ℕ) → j < e → not (check5 (graph n sources targets) (labelAndRank label rank) j) ≡ false)
+
+abbrev μ-loop : tie.MeasureT-loop
+μ-loop n sources targets label rank e₀ e = length sources - e
+
+loop-holds : tie.Need-loop-holds Inv-loop μ-loop
+loop-holds c = (omega arith, λ j h. absurd (omega arith))
+
+rises-requires : tie.Need-rises-requires Inv-loop μ-loop
+rises-requires c κs = let s = (c .before .before .before .before .before .before) in record { valid = s .pre .valid; label-size = s .pre .label-size; rank-size = s .pre .rank-size; low = c .loop-test .taken }
+
+returns : tie.Need-returns Inv-loop μ-loop
+returns c = let s = (c .before .before .before .before .before .before .before .before) in least-found (length (s .args .sources .now)) (λ (e : ℕ). not (check5 (graph (s .args .n) (s .args .sources .now) (s .args .targets .now)) (labelAndRank (s .args .label .now) (s .args .rank .now)) e)) (c .before .before .before .loop .e) (c .before .before .loop-test .taken) (c .before .before .before .loop .inv .1) (rw (← (c .before .rises .ensures), c .if1 .taken))
+
+add-e : tie.Need-add-e Inv-loop μ-loop
+add-e c = omega (arith, c .before .before .loop-test .taken)
+
+loop-less : tie.Need-loop-less Inv-loop μ-loop
+loop-less c = omega arith
+
+loop-again : tie.Need-loop-again Inv-loop μ-loop
+loop-again c = (omega arith, below-more _ _ (c .before .before .before .loop .inv .1) (rw (← (c .before .rises .ensures), c .if1 .left)))
+
+returns-2 : tie.Need-returns-2 Inv-loop μ-loop
+returns-2 c = let s = (c .before .before .before .before .before .before) in least-none (length (s .args .sources .now)) (λ (e : ℕ). not (check5 (graph (s .args .n) (s .args .sources .now) (s .args .targets .now)) (labelAndRank (s .args .label .now) (s .args .rank .now)) e)) (λ j h. c .before .loop .inv .1 j (omega arith))
+
+pub first-edge-spec : {M : Type 1} → statement M
+first-edge-spec =
+    tie.close
+    (tie.spec
+    Inv-loop
+    μ-loop
+    loop-holds
+    rises-requires
+    returns
+    add-e
+    loop-less
+    loop-again
+    returns-2)

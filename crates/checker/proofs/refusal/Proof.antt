@@ -1,0 +1,57 @@
+use Prim.Native.Nat.{_-_}
+use borrow.Author.Needs.{needs}
+use borrow.Author.Tests.{eq-eqb, ne-eqb}
+use Rattle.graph.proofs.Refusals.{or-stop}
+use Rattle.graph.specs.Refusal.{given, _or_}
+use Rattle.checker.specs.Promise.{checkerRefusal, wrongSize}
+use Rattle.checker.proofs.refusal.Statement.{statement}
+use Rattle.checker.proofs.refusal.Tie as tie
+
+check-requires : tie.Need-check-requires
+check-requires c κs = search needs
+
+returns : tie.Need-returns
+unfolding checkerRefusal
+returns c = rw (← (c .before .check .ensures), or-stop _ _ (c .if1 .taken))
+
+returns-2 : tie.Need-returns-2
+unfolding checkerRefusal wrongSize given _or_
+returns-2 c = rw (← (c .before .before .check .ensures), c .before .if1 .left, ne-eqb _ _ (c .if2 .taken))
+
+returns-3 : tie.Need-returns-3
+unfolding checkerRefusal wrongSize given _or_
+returns-3 c = rw (← (c .before .before .before .check .ensures), c .before .before .if1 .left, eq-eqb _ _ (c .before .if2 .left), ne-eqb _ _ (c .if3 .taken))
+
+returns-4 : tie.Need-returns-4
+unfolding checkerRefusal wrongSize given _or_
+returns-4 c = rw (← (c .before .before .before .before .check .ensures), c .before .before .before .if1 .left, eq-eqb _ _ (c .before .before .if2 .left), eq-eqb _ _ (c .before .if3 .left), ne-eqb _ _ (c .if4 .taken))
+
+returns-5 : tie.Need-returns-5
+unfolding checkerRefusal wrongSize given _or_
+returns-5 c = rw (← (c .before .before .before .before .before .check .ensures), c .before .before .before .before .if1 .left, eq-eqb _ _ (c .before .before .before .if2 .left), eq-eqb _ _ (c .before .before .if3 .left), eq-eqb _ _ (c .before .if4 .left), ne-eqb _ _ (c .if5 .taken))
+
+returns-6 : tie.Need-returns-6
+unfolding checkerRefusal wrongSize given _or_
+returns-6 c = rw (← (c .before .before .before .before .before .before .check .ensures), c .before .before .before .before .before .if1 .left, eq-eqb _ _ (c .before .before .before .before .if2 .left), eq-eqb _ _ (c .before .before .before .if3 .left), eq-eqb _ _ (c .before .before .if4 .left), eq-eqb _ _ (c .before .if5 .left), ne-eqb _ _ (c .if6 .taken))
+
+returns-7 : tie.Need-returns-7
+unfolding checkerRefusal wrongSize given _or_
+returns-7 c = rw (← (c .before .before .before .before .before .before .before .check .ensures), c .before .before .before .before .before .before .if1 .left, eq-eqb _ _ (c .before .before .before .before .before .if2 .left), eq-eqb _ _ (c .before .before .before .before .if3 .left), eq-eqb _ _ (c .before .before .before .if4 .left), eq-eqb _ _ (c .before .before .if5 .left), eq-eqb _ _ (c .before .if6 .left), ne-eqb _ _ (c .if7 .taken))
+
+returns-8 : tie.Need-returns-8
+unfolding checkerRefusal wrongSize given _or_
+returns-8 c = rw (← (c .before .before .before .before .before .before .before .check .ensures), c .before .before .before .before .before .before .if1 .left, eq-eqb _ _ (c .before .before .before .before .before .if2 .left), eq-eqb _ _ (c .before .before .before .before .if3 .left), eq-eqb _ _ (c .before .before .before .if4 .left), eq-eqb _ _ (c .before .before .if5 .left), eq-eqb _ _ (c .before .if6 .left), eq-eqb _ _ (c .if7 .left))
+
+pub refusal-spec : {M : Type 1} → statement M
+refusal-spec =
+    tie.close
+    (tie.spec
+    check-requires
+    returns
+    returns-2
+    returns-3
+    returns-4
+    returns-5
+    returns-6
+    returns-7
+    returns-8)
