@@ -2,6 +2,7 @@ pub mod Tests
 pub mod Counts
 pub mod Sums
 pub mod Ranges
+pub mod Changes
 pub mod Refusals
 pub mod Memory
 pub mod Lent
