@@ -64,7 +64,7 @@ pub record Turn (g : Graph) (ix b : ℕ) (w : List ℕ) (i k seen : ℕ) : Type 
   pub few : edges g ≤ mostEdges
   pub most : seen ≤ i * mostEdges
 
-queued-most : (g : Graph) (b : ℕ) (w : List ℕ) (k : ℕ) → edges g ≤ mostEdges → queued (leaving g) (g .n) b w k ≤ k * mostEdges
+pub queued-most : (g : Graph) (b : ℕ) (w : List ℕ) (k : ℕ) → edges g ≤ mostEdges → queued (leaving g) (g .n) b w k ≤ k * mostEdges
 unfolding queued
 queued-most g b w k h = tally-most (λ i. leaving g (que (g .n) b w i)) k mostEdges (λ i l. omega (arith, count-le (g .src) (edges g) (que (g .n) b w i)))
 

@@ -1,3 +1,4 @@
 pub mod Painting
 pub mod Growth
 pub mod Levels
+pub mod Spreading

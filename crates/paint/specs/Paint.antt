@@ -101,7 +101,8 @@ pub record Spread (g : Graph) (m : ℕ → ℕ) (b : ℕ) (w : List ℕ) (k h : 
 -- The queue of length k holds the starts X, painted since w.
 pub record Begun (g : Graph) (m : ℕ → ℕ) (b : ℕ) (X : Part) (w w' : List ℕ) (k : ℕ) : Type 0 where
   pub grew : Grew m (g .n) b w 0 w' k (λ v. X v × Opens m (col b w v))
-  pub shut : (v : ℕ) → v < g .n → X v → Shut m (col b w' v)
+  pub low : (v : ℕ) → X v → v < g .n
+  pub shut : (v : ℕ) → X v → Shut m (col b w' v)
 
 pub record SearchAsk (g : Graph) (m : ℕ → ℕ) (ix b : ℕ) (w : List ℕ) : Type 0 where
   pub laid : Laid g ix b w

@@ -1,0 +1,131 @@
+use mathlib.Core.Path.{_≡_, subst}
+use Prim.Native.Nat.{ℕ, _≤_, _<_, _+_, _-_}
+use native.Mathlib.Omega.{arith}
+use Rattle.graph.specs.Graph.{graph}
+use Rattle.paint.specs.Colours.{paint}
+use Rattle.paint.specs.Paint.{Levelled}
+use Rattle.paint.proofs.Levels.{Turn, level-none, turn, turn-ask, turn-step}
+use Rattle.paint.proofs.level.Statement.{statement}
+use Rattle.paint.proofs.level.Tie as tie
+use Rattle.paint.proofs.level.Reads as reads
+use Rattle.paint.proofs.level.Lts as lts
+use Rattle.paint.proofs.scan.Reads as scan-reads
+
+abbrev Inv-loop : tie.InvT-loop
+Inv-loop from to n w₀ ix b a a2 c c2 h k eb q₀ edges₀ i₀ w q edges i = (h ≤ i) × (i ≤ k) × Levelled (graph n from to) (paint a a2 c c2) b h i w₀ k w q edges
+
+abbrev μ-loop : tie.MeasureT-loop
+μ-loop from to n w₀ ix b a a2 c c2 h k eb q₀ edges₀ i₀ w q edges i = k - i
+
+at : (c : tie.In-loop Inv-loop μ-loop) → Turn (graph (c .before .before .before .before .before .args .n) (c .before .before .before .before .before .args .from .now) (c .before .before .before .before .before .args .to .now)) (c .before .before .before .before .before .args .ix) (c .before .before .before .before .before .args .b) (c .before .loop .w) (c .before .loop .i) (c .before .loop .q) (c .before .loop .edges)
+at c = let s = c .before .before .before .before .before in let l = c .before .loop in turn (graph (s .args .n) (s .args .from .now) (s .args .to .now)) (paint (s .args .a) (s .args .a2) (s .args .c) (s .args .c2)) (s .args .ix) (s .args .b) (s .args .h) (s .args .w .now) (s .args .k) (s .pre) (l .i) (l .w) (l .q) (l .edges) (l .inv .2) (l .inv .0) (c .loop-test .taken)
+
+add-eb : tie.Need-add-eb Inv-loop μ-loop
+add-eb c = omega (arith, c .before .before .before .pre .laid .below, c .before .before .before .pre .ready .fits)
+
+add-eb-2 : tie.Need-add-eb-2 Inv-loop μ-loop
+add-eb-2 c = omega (arith, c .before .before .before .pre .laid .below, c .before .before .before .pre .ready .fits)
+
+loop-holds : tie.Need-loop-holds Inv-loop μ-loop
+loop-holds c = let s = c .before .before .before in (omega arith, s .pre .order, level-none (graph (s .args .n) (s .args .from .now) (s .args .to .now)) (paint (s .args .a) (s .args .a2) (s .args .c) (s .args .c2)) (s .args .ix) (s .args .b) (s .args .h) (s .args .w .now) (s .args .k) (s .pre))
+
+add-u : tie.Need-add-u Inv-loop μ-loop
+add-u c = omega (arith, at (c), c .loop-test .taken)
+
+add-u-2 : tie.Need-add-u-2 Inv-loop μ-loop
+add-u-2 c = omega (arith, at (c), c .loop-test .taken)
+
+mul-u : tie.Need-mul-u Inv-loop μ-loop
+mul-u c = omega (arith, at (c), c .loop-test .taken)
+
+slice-read-u : tie.Need-slice-read-u Inv-loop μ-loop
+slice-read-u c = omega (arith, at (c .before), c .before .loop-test .taken)
+
+cast-u : tie.Need-cast-u Inv-loop μ-loop
+cast-u c = omega (arith, at (c .before), c .before .loop-test .taken)
+
+add-s : tie.Need-add-s Inv-loop μ-loop
+add-s c = omega (arith, at (c .before), c .before .loop-test .taken)
+
+mul-s : tie.Need-mul-s Inv-loop μ-loop
+mul-s c = omega (arith, at (c .before), c .before .loop-test .taken)
+
+slice-read-s : tie.Need-slice-read-s Inv-loop μ-loop
+slice-read-s c = omega (arith, at (c .before .before), c .before .before .loop-test .taken)
+
+cast-s : tie.Need-cast-s Inv-loop μ-loop
+cast-s c = omega (arith, at (c .before .before), c .before .before .loop-test .taken)
+
+add-t : tie.Need-add-t Inv-loop μ-loop
+add-t c = omega (arith, at (c .before .before), c .before .before .loop-test .taken)
+
+add-t-2 : tie.Need-add-t-2 Inv-loop μ-loop
+add-t-2 c = omega (arith, at (c .before .before), c .before .before .loop-test .taken)
+
+mul-t : tie.Need-mul-t Inv-loop μ-loop
+mul-t c = omega (arith, at (c .before .before), c .before .before .loop-test .taken)
+
+slice-read-t : tie.Need-slice-read-t Inv-loop μ-loop
+slice-read-t c = omega (arith, at (c .before .before .before), c .before .before .before .loop-test .taken)
+
+cast-t : tie.Need-cast-t Inv-loop μ-loop
+cast-t c = omega (arith, at (c .before .before .before), c .before .before .before .loop-test .taken)
+
+scan-requires : tie.Need-scan-requires Inv-loop μ-loop
+scan-requires c κs = let s = c .before .before .before .before .before .before .before .before .before in let l = c .before .before .before .before .before .loop in turn-ask (graph (s .args .n) (s .args .from .now) (s .args .to .now)) (paint (s .args .a) (s .args .a2) (s .args .c) (s .args .c2)) (s .args .ix) (s .args .b) (s .args .h) (s .args .w .now) (s .args .k) (s .pre) (l .i) (l .w) (l .q) (l .edges) (l .inv .2) (l .inv .0) (c .before .before .before .before .loop-test .taken)
+
+sub-edges : tie.Need-sub-edges Inv-loop μ-loop
+sub-edges c = omega (arith, at (c .before .before .before .before .before .before .before), c .before .before .before .before .before .before .before .loop-test .taken)
+
+add-edges : tie.Need-add-edges Inv-loop μ-loop
+add-edges c = omega (arith, at (c .before .before .before .before .before .before .before), c .before .before .before .before .before .before .before .loop-test .taken)
+
+add-i : tie.Need-add-i Inv-loop μ-loop
+add-i c = omega (arith, at (c .before .before .before .before .before .before .before), c .before .before .before .before .before .before .before .loop-test .taken)
+
+loop-less : tie.Need-loop-less Inv-loop μ-loop
+loop-less c = omega (arith, at (c .before .before .before .before .before .before .before), c .before .before .before .before .before .before .before .loop-test .taken)
+
+loop-again : tie.Need-loop-again Inv-loop μ-loop
+loop-again c = let s = c .before .before .before .before .before .before .before .before .before .before .before .before in let l = c .before .before .before .before .before .before .before .before .loop in (omega arith, omega arith, turn-step (graph (s .args .n) (s .args .from .now) (s .args .to .now)) (paint (s .args .a) (s .args .a2) (s .args .c) (s .args .c2)) (s .args .ix) (s .args .b) (s .args .h) (s .args .w .now) (s .args .k) (s .pre) (l .i) (l .w) (l .q) (l .edges) (l .inv .2) (l .inv .0) (c .before .before .before .before .before .before .before .loop-test .taken) _ _ (c .before .before .scan .ensures))
+
+same-length : tie.Need-same-length Inv-loop μ-loop
+same-length c = c .before .loop .inv .2 .grew .kept .long
+
+returns : tie.Need-returns Inv-loop μ-loop
+returns c =     let s = c .before .before .before .before .before in
+    let l = c .before .loop in
+    let e : l .i ≡ s .args .k = omega arith in
+    subst (λ (y : ℕ). Levelled (graph (s .args .n) (s .args .from .now) (s .args .to .now)) (paint (s .args .a) (s .args .a2) (s .args .c) (s .args .c2)) (s .args .b) (s .args .h) y (s .args .w .now) (s .args .k) (l .w) (l .q) (l .edges)) e (l .inv .2)
+
+pub level-spec : {M : Type 1} → statement M
+level-spec =
+    tie.close
+    (tie.spec
+    Inv-loop
+    μ-loop
+    add-eb
+    add-eb-2
+    loop-holds
+    add-u
+    add-u-2
+    mul-u
+    slice-read-u
+    cast-u
+    add-s
+    mul-s
+    slice-read-s
+    cast-s
+    add-t
+    add-t-2
+    mul-t
+    slice-read-t
+    cast-t
+    scan-requires
+    sub-edges
+    add-edges
+    add-i
+    loop-less
+    loop-again
+    same-length
+    returns)
