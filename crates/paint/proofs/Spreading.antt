@@ -171,3 +171,10 @@ module _ (g : Graph) (m : ℕ → ℕ) (ix b : ℕ) (w₀ : List ℕ) (a : Searc
           sums = sums;
           looked = s .looked ∙ sums (leaving g) ∙ sym (looked-leaving g (painted m b w₀ w') (a .laid .valid) (a .laid .counts));
           kept = grew .kept }
+
+  -- one start
+  pub start-visit : (p : ℕ) → p < g .n → VisitAsk m (g .n) b p w₀ 0
+  start-visit p l = record { ready = empty-ready; vertex = l }
+
+  pub start-begun : (p : ℕ) → p < g .n → (w : List ℕ) (k : ℕ) → Visited m (g .n) b p w₀ 0 w k → Begun g m b (only p) w₀ w k
+  start-begun p l w k s = begun-more (λ v. ⊥) w₀ 0 begun-none (only p) p w k l (λ v t. absurd t) refl (λ v t. inr (sym t)) s

@@ -1,3 +1,10 @@
+use mathlib.Core.Path.{_≡_, subst}
+use Prim.Native.Nat.{ℕ, _≤_, _-_}
+use native.Mathlib.Omega.{arith}
+use Rattle.graph.specs.Graph.{graph}
+use Rattle.paint.specs.Colours.{paint}
+use Rattle.paint.specs.Paint.{Spread}
+use Rattle.paint.proofs.Spreading.{spread-none, spread-few, spread-ask, spread-step, spread-room}
 use Rattle.paint.proofs.spread.Statement.{statement}
 use Rattle.paint.proofs.spread.Tie as tie
 use Rattle.paint.proofs.spread.Reads as reads
@@ -5,38 +12,34 @@ use Rattle.paint.proofs.spread.Lts as lts
 use Rattle.paint.proofs.level.Reads as level-reads
 
 abbrev Inv-loop : tie.InvT-loop
-Inv-loop from to n w₀ ix b a a2 c c2 k0 h₀ k₀ edges₀ w h k edges = ?
+Inv-loop from to n w₀ ix b a a2 c c2 k0 h₀ k₀ edges₀ w h k edges = (h ≤ k) × Spread (graph n from to) (paint a a2 c c2) b w₀ k0 h w k edges
 
 abbrev μ-loop : tie.MeasureT-loop
-μ-loop from to n w₀ ix b a a2 c c2 k0 h₀ k₀ edges₀ w h k edges = ?
+μ-loop from to n w₀ ix b a a2 c c2 k0 h₀ k₀ edges₀ w h k edges = n - h
 
--- src/lib.rt:87:5
 loop-holds : tie.Need-loop-holds Inv-loop μ-loop
-loop-holds c = ?
+loop-holds c = let s = c .before .before .before in (omega arith, spread-none (graph (s .args .n) (s .args .from .now) (s .args .to .now)) (paint (s .args .a) (s .args .a2) (s .args .c) (s .args .c2)) (s .args .ix) (s .args .b) (s .args .w .now) (s .args .k0) (s .pre))
 
--- src/lib.rt:88:13
 level-requires : tie.Need-level-requires Inv-loop μ-loop
-level-requires c κs = ?
+level-requires c κs = let s = c .before .before .before .before .before .before in let l = c .before .before .loop in spread-ask (graph (s .args .n) (s .args .from .now) (s .args .to .now)) (paint (s .args .a) (s .args .a2) (s .args .c) (s .args .c2)) (s .args .ix) (s .args .b) (s .args .w .now) (s .args .k0) (s .pre) (l .h) (l .w) (l .k) (l .edges) (l .inv .1) (l .inv .0)
 
--- src/lib.rt:91:9
 add-edges : tie.Need-add-edges Inv-loop μ-loop
-add-edges c = ?
+add-edges c = let s = c .before .before .before .before .before .before .before .before .before .before in let l = c .before .before .before .before .before .before .loop in omega (arith, s .pre .ready .small, spread-few (graph (s .args .n) (s .args .from .now) (s .args .to .now)) (paint (s .args .a) (s .args .a2) (s .args .c) (s .args .c2)) (s .args .ix) (s .args .b) (s .args .w .now) (s .args .k0) (s .pre) (l .h) (l .w) (l .k) (l .edges) (l .inv .1), spread-room (graph (s .args .n) (s .args .from .now) (s .args .to .now)) (paint (s .args .a) (s .args .a2) (s .args .c) (s .args .c2)) (s .args .ix) (s .args .b) (s .args .w .now) (s .args .k0) (s .pre) (l .k) _ _ _ (spread-step (graph (s .args .n) (s .args .from .now) (s .args .to .now)) (paint (s .args .a) (s .args .a2) (s .args .c) (s .args .c2)) (s .args .ix) (s .args .b) (s .args .w .now) (s .args .k0) (s .pre) (l .h) (l .w) (l .k) (l .edges) (l .inv .1) _ _ _ (c .before .before .before .level .ensures)))
 
--- src/lib.rt:87:5
 loop-less : tie.Need-loop-less Inv-loop μ-loop
-loop-less c = ?
+loop-less c = let s = c .before .before .before .before .before .before .before .before .before .before in let l = c .before .before .before .before .before .before .loop in omega (arith, c .before .before .before .before .before .loop-test .taken, spread-few (graph (s .args .n) (s .args .from .now) (s .args .to .now)) (paint (s .args .a) (s .args .a2) (s .args .c) (s .args .c2)) (s .args .ix) (s .args .b) (s .args .w .now) (s .args .k0) (s .pre) (l .h) (l .w) (l .k) (l .edges) (l .inv .1))
 
--- src/lib.rt:87:5
 loop-again : tie.Need-loop-again Inv-loop μ-loop
-loop-again c = ?
+loop-again c = let s = c .before .before .before .before .before .before .before .before .before .before in let l = c .before .before .before .before .before .before .loop in (c .before .before .before .level .ensures .grew .more, spread-step (graph (s .args .n) (s .args .from .now) (s .args .to .now)) (paint (s .args .a) (s .args .a2) (s .args .c) (s .args .c2)) (s .args .ix) (s .args .b) (s .args .w .now) (s .args .k0) (s .pre) (l .h) (l .w) (l .k) (l .edges) (l .inv .1) _ _ _ (c .before .before .before .level .ensures))
 
--- src/lib.rt:80:1
 same-length : tie.Need-same-length Inv-loop μ-loop
-same-length c = ?
+same-length c = c .before .loop .inv .1 .grew .kept .long
 
--- src/lib.rt:80:1
 returns : tie.Need-returns Inv-loop μ-loop
-returns c = ?
+returns c =     let s = c .before .before .before .before .before in
+    let l = c .before .loop in
+    let e : l .h ≡ l .k = omega (arith, l .inv .0, c .loop-test .left) in
+    subst (λ (y : ℕ). Spread (graph (s .args .n) (s .args .from .now) (s .args .to .now)) (paint (s .args .a) (s .args .a2) (s .args .c) (s .args .c2)) (s .args .b) (s .args .w .now) (s .args .k0) y (l .w) (l .k) (l .edges)) e (l .inv .1)
 
 pub spread-spec : {M : Type 1} → statement M
 spread-spec =
