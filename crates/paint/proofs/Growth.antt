@@ -47,26 +47,34 @@ waiting-le m n b w = omega (arith, tally-most (λ v. cond (opens m (col b w v)) 
 module _ (m : ℕ → ℕ) (n b : ℕ) where
   pub grew-none : (w : List ℕ) (k : ℕ) (New : Part) → Grew m n b w k w k New
   grew-none w k New = record {
-      more = omega arith; front = λ i h. refl; fresh = λ i h q. absurd (omega arith); each = λ v h. inl refl; moved = λ f. refl; kept = kept-none n b w }
+    more = omega arith;
+    front = λ i h. refl;
+    fresh = λ i h q. absurd (omega arith);
+    each = λ v h. inl refl;
+    moved = λ f. refl;
+    kept = kept-none n b w;
+  }
 
   pub grew-more : ((y : ℕ) → m (m y) ≡ m y) → (w : List ℕ) (k : ℕ) (w₁ : List ℕ) (k₁ : ℕ) (w₂ : List ℕ) (k₂ : ℕ) (New₁ New₂ New : Part)
       → ((v : ℕ) → New₁ v → New v) → ((v : ℕ) → v < n → New₂ v → New v)
       → Grew m n b w k w₁ k₁ New₁ → Grew m n b w₁ k₁ w₂ k₂ New₂ → Grew m n b w k w₂ k₂ New
   grew-more still w k w₁ k₁ w₂ k₂ New₁ New₂ New f g x y = record {
-      more = omega (arith, x .more, y .more);
-      front = λ i h. y .front i (omega (arith, x .more)) ∙ x .front i h;
-      fresh = λ i h q. elim (decLt i k₁) as (λ _. (que n b w₂ i < n) × New (que n b w₂ i)) [
-          yes l ↦ rw (y .front i l) (x .fresh i h l .0, f _ (x .fresh i h l .1))
-        | no l ↦ let z = y .fresh i (omega arith) q in (z .0, g _ (z .0) (z .1)) ];
-      each = λ v h. ⊎-elim
-          (λ s. ⊎-elim (λ t. inl (t ∙ s)) (λ t. inr (rw s at (t .0), t .1 ∙ ap m s, (t .2 .0, omega (arith, x .more, t .2 .1), t .2 .2, t .2 .3))) (y .each v h))
-          (λ s. ⊎-elim
-            (λ t. inr (s .0, t ∙ s .1, (s .2 .0, s .2 .1, omega (arith, y .more, s .2 .2), y .front (s .2 .0) (s .2 .2) ∙ s .2 .3)))
-            (λ t. absurd (t .0 (ap m (s .1) ∙ still (col b w v) ∙ sym (s .1))))
-            (y .each v h))
-          (x .each v h);
-      moved = λ f. y .moved f ∙ x .moved f;
-      kept = kept-more (x .kept) (y .kept) }
+    more = omega (arith, x .more, y .more);
+    front = λ i h. y .front i (omega (arith, x .more)) ∙ x .front i h;
+    fresh = λ i h q. elim (decLt i k₁) as (λ _. (que n b w₂ i < n) × New (que n b w₂ i)) [
+      | yes l ↦ rw (y .front i l) (x .fresh i h l .0, f _ (x .fresh i h l .1))
+      | no l ↦ let z = y .fresh i (omega arith) q in (z .0, g _ (z .0) (z .1))
+    ];
+    each = λ v h. ⊎-elim
+        (λ s. ⊎-elim (λ t. inl (t ∙ s)) (λ t. inr (rw s at (t .0), t .1 ∙ ap m s, (t .2 .0, omega (arith, x .more, t .2 .1), t .2 .2, t .2 .3))) (y .each v h))
+        (λ s. ⊎-elim
+        (λ t. inr (s .0, t ∙ s .1, (s .2 .0, s .2 .1, omega (arith, y .more, s .2 .2), y .front (s .2 .0) (s .2 .2) ∙ s .2 .3)))
+        (λ t. absurd (t .0 (ap m (s .1) ∙ still (col b w v) ∙ sym (s .1))))
+        (y .each v h))
+        (x .each v h);
+    moved = λ f. y .moved f ∙ x .moved f;
+    kept = kept-more (x .kept) (y .kept);
+  }
 
   -- x is painted and put at the queue's end
   module _ (w : List ℕ) (k x : ℕ) (a : VisitAsk m n b x w k) (o : Opens m (col b w x)) where
@@ -89,8 +97,8 @@ module _ (m : ℕ → ℕ) (n b : ℕ) where
     less₁ : (f : ℕ → ℕ) → waiting f m n b w ≡ waiting f m n b w₁ + f x
     unfolding waiting
     less₁ f = tally-less (λ v. cond (opens m (col b w v)) (f v) 0) (λ v. cond (opens m (col b w₁ v)) (f v) 0) n x (a .vertex)
-            (cond-false (opens m (col b w₁ x)) (f x) 0 (λ t. shut₁ (T-opens m (col b w₁ x) t)))
-            (λ v l q. ap (λ (y : ℕ). cond (opens m y) (f v) 0) (else₁ v q))
+        (cond-false (opens m (col b w₁ x)) (f x) 0 (λ t. shut₁ (T-opens m (col b w₁ x) t)))
+        (λ v l q. ap (λ (y : ℕ). cond (opens m y) (f v) 0) (else₁ v q))
         ∙ ap (λ (y : ℕ). waiting f m n b w₁ + y) (cond-true (opens m (col b w x)) (f x) 0 (opens-T m (col b w x) o))
 
     pub k-lt : k < n
@@ -115,19 +123,23 @@ module _ (m : ℕ → ℕ) (n b : ℕ) where
 
     pub visit-one : Visited m n b x w k w₂ (k + 1)
     visit-one = record {
-        grew = record {
-            more = omega arith;
-            front = front;
-            fresh = λ i h q. let e : i ≡ k = omega arith in rw (e, last) (a .vertex, (refl, o));
-            each = λ v h. elim (ℕ-discrete v x) as (λ _. (col b w₂ v ≡ col b w v) ⊎ (Opens m (col b w v) × (col b w₂ v ≡ m (col b w v)) × ((i : ℕ) × (k ≤ i) × (i < k + 1) × (que n b w₂ i ≡ v)))) [
-                yes e ↦ inr (rw e o, rw e here, (k, omega arith, omega arith, last ∙ sym e))
-              | no e ↦ inl (col₂ v h ∙ else₁ v e) ];
-            moved = λ f. omega (arith, queued-suc f n b w₂ k, ap f last, queued-same f n b w w₂ k front, less f);
-            kept = record {
-                low = λ j h. getD-set-other w₁ (b + n + k) j x 0 (omega arith) ∙ getD-set-other w (b + x) j (m (col b w x)) 0 (omega arith);
-                high = λ j h. getD-set-other w₁ (b + n + k) j x 0 (omega (arith, k-lt)) ∙ getD-set-other w (b + x) j (m (col b w x)) 0 (omega (arith, a .vertex));
-                long = length-set w₁ (b + n + k) x ∙ length-set w (b + x) (m (col b w x)) } };
-        shut = ap m here ∙ a .ready .still (col b w x) ∙ sym here }
+      grew = record {
+        more = omega arith;
+        front = front;
+        fresh = λ i h q. let e : i ≡ k = omega arith in rw (e, last) (a .vertex, (refl, o));
+        each = λ v h. elim (ℕ-discrete v x) as (λ _. (col b w₂ v ≡ col b w v) ⊎ (Opens m (col b w v) × (col b w₂ v ≡ m (col b w v)) × ((i : ℕ) × (k ≤ i) × (i < k + 1) × (que n b w₂ i ≡ v)))) [
+          | yes e ↦ inr (rw e o, rw e here, (k, omega arith, omega arith, last ∙ sym e))
+          | no e ↦ inl (col₂ v h ∙ else₁ v e)
+        ];
+        moved = λ f. omega (arith, queued-suc f n b w₂ k, ap f last, queued-same f n b w w₂ k front, less f);
+        kept = record {
+          low = λ j h. getD-set-other w₁ (b + n + k) j x 0 (omega arith) ∙ getD-set-other w (b + x) j (m (col b w x)) 0 (omega arith);
+          high = λ j h. getD-set-other w₁ (b + n + k) j x 0 (omega (arith, k-lt)) ∙ getD-set-other w (b + x) j (m (col b w x)) 0 (omega (arith, a .vertex));
+          long = length-set w₁ (b + n + k) x ∙ length-set w (b + x) (m (col b w x));
+        };
+      };
+      shut = ap m here ∙ a .ready .still (col b w x) ∙ sym here;
+    }
 
   pub visit-none : (w : List ℕ) (k x : ℕ) → Shut m (col b w x) → Visited m n b x w k w k
   visit-none w k x e = record { grew = grew-none w k _; shut = e }
@@ -142,5 +154,8 @@ module _ (m : ℕ → ℕ) (n b : ℕ) where
 
     pub ready-more : Ready m n b w k → Ready m n b w' k'
     ready-more r = record {
-        small = r .small; fits = omega (arith, r .fits, g .kept .long); still = r .still;
-        room = omega (arith, r .room, g .moved (λ v. 1), queued-ones n b w k, queued-ones n b w' k') }
+      small = r .small;
+      fits = omega (arith, r .fits, g .kept .long);
+      still = r .still;
+      room = omega (arith, r .room, g .moved (λ v. 1), queued-ones n b w k, queued-ones n b w' k');
+    }

@@ -40,13 +40,15 @@ module _ (m : ℕ → ℕ) (n b eb : ℕ) (to : List ℕ) (i₀ t : ℕ) (w₀ :
     scan-step w' k' v =
         let e : other w eb to i ≡ other w₀ eb to i = ap (λ (x : ℕ). getD to x 0) edge-same in
         record {
-        grew = grew-more m n b (a .ready .still) w₀ k₀ w k w' k' _ _ _
-            (λ u q. (q .0, (q .1 .0, q .1 .1, omega (arith, q .1 .2), q .1 .3)))
-            (λ u x q. (was-open m n b (s .grew) u x (q .1), (i, l, omega arith, sym e ∙ sym (q .0))))
-            (s .grew) (v .grew);
-        shut = λ j x y. elim (ℕ-discrete j i) as (λ _. Shut m (col b w' (other w₀ eb to j))) [
-            yes q ↦ rw (q, ← e) (v .shut)
-          | no q ↦ stays m n b (v .grew) (other w₀ eb to j) (a .ends (getD w₀ (eb + j) 0) (a .edges j x (omega arith))) (s .shut j x (omega arith)) ] }
+          grew = grew-more m n b (a .ready .still) w₀ k₀ w k w' k' _ _ _
+              (λ u q. (q .0, (q .1 .0, q .1 .1, omega (arith, q .1 .2), q .1 .3)))
+              (λ u x q. (was-open m n b (s .grew) u x (q .1), (i, l, omega arith, sym e ∙ sym (q .0))))
+              (s .grew) (v .grew);
+          shut = λ j x y. elim (ℕ-discrete j i) as (λ _. Shut m (col b w' (other w₀ eb to j))) [
+            | yes q ↦ rw (q, ← e) (v .shut)
+            | no q ↦ stays m n b (v .grew) (other w₀ eb to j) (a .ends (getD w₀ (eb + j) 0) (a .edges j x (omega arith))) (s .shut j x (omega arith))
+          ];
+        }
 
 -- A LEVEL
 -- what a turn at place i of the queue reads
@@ -87,18 +89,19 @@ module _ (g : Graph) (m : ℕ → ℕ) (ix b h : ℕ) (w₀ : List ℕ) (k₀ : 
 
     pub turn : Turn g ix b w i k seen
     turn = record {
-        vertex = u-low;
-        begins = z .grew .kept .low (ix + u) (omega (arith, a .laid .below, u-low)) ∙ a .laid .index .offs u (omega (arith, u-low));
-        ends = ap (λ (j : ℕ). getD w j 0) (omega arith) ∙ z .grew .kept .low (ix + suc u) (omega (arith, a .laid .below, u-low)) ∙ a .laid .index .offs (suc u) u-low;
-        order = start-mono (g .src) u (suc u) (omega arith);
-        last = omega (arith, start-mono (g .src) (suc u) (g .n) u-low, start-all (g .src) (g .n) (a .laid .valid .from-low));
-        place = omega (arith, a .ready .room);
-        room = omega (arith, level-ready .room);
-        fits = level-ready .fits;
-        below = a .laid .below;
-        small = a .ready .small;
-        few = a .laid .few;
-        most = omega (arith, z .looked, queued-most g b w₀ i (a .laid .few)) }
+      vertex = u-low;
+      begins = z .grew .kept .low (ix + u) (omega (arith, a .laid .below, u-low)) ∙ a .laid .index .offs u (omega (arith, u-low));
+      ends = ap (λ (j : ℕ). getD w j 0) (omega arith) ∙ z .grew .kept .low (ix + suc u) (omega (arith, a .laid .below, u-low)) ∙ a .laid .index .offs (suc u) u-low;
+      order = start-mono (g .src) u (suc u) (omega arith);
+      last = omega (arith, start-mono (g .src) (suc u) (g .n) u-low, start-all (g .src) (g .n) (a .laid .valid .from-low));
+      place = omega (arith, a .ready .room);
+      room = omega (arith, level-ready .room);
+      fits = level-ready .fits;
+      below = a .laid .below;
+      small = a .ready .small;
+      few = a .laid .few;
+      most = omega (arith, z .looked, queued-most g b w₀ i (a .laid .few));
+    }
 
     edge-is : (j : ℕ) → j < start (g .src) (suc u) → getD w (ix + g .n + 1 + j) 0 ≡ getD w₀ (ix + g .n + 1 + j) 0
     edge-is j t = z .grew .kept .low (ix + g .n + 1 + j) (omega (arith, a .laid .below, turn .last))
@@ -108,27 +111,30 @@ module _ (g : Graph) (m : ℕ → ℕ) (ix b h : ℕ) (w₀ : List ℕ) (k₀ : 
 
     own-ask : ScanAsk m (g .n) (ix + g .n + 1) b (g .tgt) (start (g .src) u) (start (g .src) (suc u)) w k
     own-ask = record {
-        ready = level-ready;
-        order = turn .order;
-        below = omega (arith, a .laid .below, turn .last);
-        edges = λ j l t. omega (arith, a .laid .valid .same, ended j l t .0);
-        ends = λ e l. a .laid .valid .to-low e (omega (arith, a .laid .valid .same)) }
+      ready = level-ready;
+      order = turn .order;
+      below = omega (arith, a .laid .below, turn .last);
+      edges = λ j l t. omega (arith, a .laid .valid .same, ended j l t .0);
+      ends = λ e l. a .laid .valid .to-low e (omega (arith, a .laid .valid .same));
+    }
 
     own-step : (w' : List ℕ) (k' : ℕ) → Scanned m (g .n) (ix + g .n + 1) b (g .tgt) (start (g .src) u) (start (g .src) (suc u)) w k w' k'
         → Levelled g m b h (i + 1) w₀ k₀ w' k' (seen + (start (g .src) (suc u) - start (g .src) u))
     own-step w' k' s = record {
-        grew = grew-more m (g .n) b (a .ready .still) w₀ k₀ w k w' k' _ _ _
-            (λ v t. (t .0, (t .1 .0, t .1 .1, t .1 .2, omega (arith, t .1 .3), t .1 .4)))
-            (λ v l t.
-              let d = ended (t .1 .0) (t .1 .1) (t .1 .2) in
-              let e = getD w (ix + g .n + 1 + t .1 .0) 0 in
-              let y : Edge g e (que (g .n) b w₀ i) v = record { low = d .0; counts = rw (a .laid .counts e) tt; leaves = d .1 ∙ u-is; enters = t .1 .3 } in
-              (was-open m (g .n) b (z .grew) v l (t .0), (i, e, hi, omega arith, y)))
-            (z .grew) (s .grew);
-        shut = λ v t. elim (ℕ-discrete (t .0) i) as (λ _. Shut m (col b w' v)) [
-            yes y ↦ entered v (t .1) (rw y at (t .4))
-          | no y ↦ stays m (g .n) b (s .grew) v (edge-to-low (a .laid .valid) (t .4)) (z .shut v (t .0, t .1, t .2, omega (arith, t .3, y), t .4)) ];
-        looked = omega (arith, z .looked, queued-suc (leaving g) (g .n) b w₀ i, ap (leaving g) u-is, start-suc (g .src) u, turn .order) }
+      grew = grew-more m (g .n) b (a .ready .still) w₀ k₀ w k w' k' _ _ _
+          (λ v t. (t .0, (t .1 .0, t .1 .1, t .1 .2, omega (arith, t .1 .3), t .1 .4)))
+          (λ v l t.
+          let d = ended (t .1 .0) (t .1 .1) (t .1 .2) in
+          let e = getD w (ix + g .n + 1 + t .1 .0) 0 in
+          let y : Edge g e (que (g .n) b w₀ i) v = record { low = d .0; counts = rw (a .laid .counts e) tt; leaves = d .1 ∙ u-is; enters = t .1 .3 } in
+          (was-open m (g .n) b (z .grew) v l (t .0), (i, e, hi, omega arith, y)))
+          (z .grew) (s .grew);
+      shut = λ v t. elim (ℕ-discrete (t .0) i) as (λ _. Shut m (col b w' v)) [
+        | yes y ↦ entered v (t .1) (rw y at (t .4))
+        | no y ↦ stays m (g .n) b (s .grew) v (edge-to-low (a .laid .valid) (t .4)) (z .shut v (t .0, t .1, t .2, omega (arith, t .3, y), t .4))
+      ];
+      looked = omega (arith, z .looked, queued-suc (leaving g) (g .n) b w₀ i, ap (leaving g) u-is, start-suc (g .src) u, turn .order);
+    }
       where
         entered : (v e : ℕ) → Edge g e (que (g .n) b w₀ i) v → Shut m (col b w' v)
         entered v e y =

@@ -2,3 +2,4 @@ pub mod Painting
 pub mod Growth
 pub mod Levels
 pub mod Spreading
+pub mod Components

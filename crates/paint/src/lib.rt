@@ -26,7 +26,17 @@ fn recolour(y: u32, a: u32, a2: u32, c: u32, c2: u32) -> u32
 }
 
 // Vertex x is looked at: where its colour is to change, it changes and x goes to the queue's end. The queue's new length.
-pub fn visit(n: usize, w: &mut [u32], b: usize, x: usize, a: u32, a2: u32, c: u32, c2: u32, k: usize) -> usize
+pub fn visit(
+    n: usize,
+    w: &mut [u32],
+    b: usize,
+    x: usize,
+    a: u32,
+    a2: u32,
+    c: u32,
+    c2: u32,
+    k: usize,
+) -> usize
     requires { ⌜ VisitAsk (paint a a2 c c2) n b x (now w) k ⌝ }
     ensures { λ k'. ⌜ Visited (paint a a2 c c2) n b x (now (w .entry)) k (now (w .exit)) k' ⌝ }
 {
@@ -41,7 +51,20 @@ pub fn visit(n: usize, w: &mut [u32], b: usize, x: usize, a: u32, a2: u32, c: u3
 }
 
 // The edges at the places i0 .. t - 1 of the edge numbers, which stand in w from eb on, are looked at.
-fn scan(n: usize, to: &[u32], w: &mut [u32], eb: usize, i0: usize, t: usize, b: usize, a: u32, a2: u32, c: u32, c2: u32, k0: usize) -> usize
+fn scan(
+    n: usize,
+    to: &[u32],
+    w: &mut [u32],
+    eb: usize,
+    i0: usize,
+    t: usize,
+    b: usize,
+    a: u32,
+    a2: u32,
+    c: u32,
+    c2: u32,
+    k0: usize,
+) -> usize
     requires { ⌜ ScanAsk (paint a a2 c c2) n eb b (now to) i0 t (now w) k0 ⌝ }
     ensures { λ k'. ⌜ Scanned (paint a a2 c c2) n eb b (now (to .entry)) i0 t (now (w .entry)) k0 (now (w .exit)) k' ⌝ }
 {
@@ -57,7 +80,20 @@ fn scan(n: usize, to: &[u32], w: &mut [u32], eb: usize, i0: usize, t: usize, b: 
 }
 
 // One level: the edges of the vertices at the places h .. k - 1 of the queue are looked at.
-pub fn level(from: &[u32], to: &[u32], n: usize, w: &mut [u32], ix: usize, b: usize, a: u32, a2: u32, c: u32, c2: u32, h: usize, k: usize) -> Step
+pub fn level(
+    from: &[u32],
+    to: &[u32],
+    n: usize,
+    w: &mut [u32],
+    ix: usize,
+    b: usize,
+    a: u32,
+    a2: u32,
+    c: u32,
+    c2: u32,
+    h: usize,
+    k: usize,
+) -> Step
     requires { ⌜ LevelAsk (graph n (now from) (now to)) (paint a a2 c c2) ix b h (now w) k ⌝ }
     ensures { λ s. ⌜ Levelled (graph n (now (from .entry)) (now (to .entry))) (paint a a2 c c2) b h k (now (w .entry)) k (now (w .exit)) (s .k) (s .edges) ⌝ }
 {
@@ -77,7 +113,19 @@ pub fn level(from: &[u32], to: &[u32], n: usize, w: &mut [u32], ix: usize, b: us
 }
 
 // The search goes on from the k0 vertices of the queue, level by level, until the queue is used up.
-pub fn spread(from: &[u32], to: &[u32], n: usize, w: &mut [u32], ix: usize, b: usize, a: u32, a2: u32, c: u32, c2: u32, k0: usize) -> Step
+pub fn spread(
+    from: &[u32],
+    to: &[u32],
+    n: usize,
+    w: &mut [u32],
+    ix: usize,
+    b: usize,
+    a: u32,
+    a2: u32,
+    c: u32,
+    c2: u32,
+    k0: usize,
+) -> Step
     requires { ⌜ LevelAsk (graph n (now from) (now to)) (paint a a2 c c2) ix b 0 (now w) k0 ⌝ }
     ensures { λ s. ⌜ Spread (graph n (now (from .entry)) (now (to .entry))) (paint a a2 c c2) b (now (w .entry)) k0 (s .k) (now (w .exit)) (s .k) (s .edges) ⌝ }
 {
@@ -94,7 +142,19 @@ pub fn spread(from: &[u32], to: &[u32], n: usize, w: &mut [u32], ix: usize, b: u
 }
 
 // What p reaches through colours that change is painted, and the queue ends holding it.
-pub fn search(from: &[u32], to: &[u32], n: usize, w: &mut [u32], ix: usize, b: usize, p: usize, a: u32, a2: u32, c: u32, c2: u32) -> Step
+pub fn search(
+    from: &[u32],
+    to: &[u32],
+    n: usize,
+    w: &mut [u32],
+    ix: usize,
+    b: usize,
+    p: usize,
+    a: u32,
+    a2: u32,
+    c: u32,
+    c2: u32,
+) -> Step
     requires { ⌜ StartAsk (graph n (now from) (now to)) (paint a a2 c c2) ix b p (now w) ⌝ }
     ensures { λ s. ⌜ Searched (graph n (now (from .entry)) (now (to .entry))) (paint a a2 c c2) b (only p) (now (w .entry)) (now (w .exit)) (s .k) (s .edges) ⌝ }
 {

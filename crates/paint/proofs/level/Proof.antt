@@ -93,7 +93,7 @@ same-length : tie.Need-same-length Inv-loop μ-loop
 same-length c = c .before .loop .inv .2 .grew .kept .long
 
 returns : tie.Need-returns Inv-loop μ-loop
-returns c =     let s = c .before .before .before .before .before in
+returns c = let s = c .before .before .before .before .before in
     let l = c .before .loop in
     let e : l .i ≡ s .args .k = omega arith in
     subst (λ (y : ℕ). Levelled (graph (s .args .n) (s .args .from .now) (s .args .to .now)) (paint (s .args .a) (s .args .a2) (s .args .c) (s .args .c2)) (s .args .b) (s .args .h) y (s .args .w .now) (s .args .k) (l .w) (l .q) (l .edges)) e (l .inv .2)

@@ -56,7 +56,7 @@ same-length : tie.Need-same-length Inv-loop μ-loop
 same-length c = c .before .loop .inv .2 .grew .kept .long
 
 returns : tie.Need-returns Inv-loop μ-loop
-returns c =     let s = c .before .before .before .before in
+returns c = let s = c .before .before .before .before in
     let l = c .before .loop in
     let e : l .i ≡ s .args .t = omega arith in
     subst (λ (y : ℕ). Scanned (paint (s .args .a) (s .args .a2) (s .args .c) (s .args .c2)) (s .args .n) (s .args .eb) (s .args .b) (s .args .to .now) (s .args .i0) y (s .args .w .now) (s .args .k0) (l .w) (l .k)) e (l .inv .2)

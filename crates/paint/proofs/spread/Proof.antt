@@ -36,7 +36,7 @@ same-length : tie.Need-same-length Inv-loop μ-loop
 same-length c = c .before .loop .inv .1 .grew .kept .long
 
 returns : tie.Need-returns Inv-loop μ-loop
-returns c =     let s = c .before .before .before .before .before in
+returns c = let s = c .before .before .before .before .before in
     let l = c .before .loop in
     let e : l .h ≡ l .k = omega (arith, l .inv .0, c .loop-test .left) in
     subst (λ (y : ℕ). Spread (graph (s .args .n) (s .args .from .now) (s .args .to .now)) (paint (s .args .a) (s .args .a2) (s .args .c) (s .args .c2)) (s .args .b) (s .args .w .now) (s .args .k0) y (l .w) (l .k) (l .edges)) e (l .inv .1)

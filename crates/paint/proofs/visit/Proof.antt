@@ -58,7 +58,7 @@ same-length : tie.Need-same-length
 same-length c = search needs
 
 returns-2 : tie.Need-returns-2
-returns-2 c =     let s = c .before .before .before .before in
+returns-2 c = let s = c .before .before .before .before in
     let m = paint (s .args .a) (s .args .a2) (s .args .c) (s .args .c2) in
     let w = s .args .w .now in
     let z : c .before .recolour .result ≡ m (getD w (s .args .b + s .args .x) 0) = c .before .recolour .ensures in
