@@ -1,0 +1,27 @@
+-- The order in which a sweep takes its pivots: the vertices of the caller's list first, then the others rising.
+use Prim.Native.Nat.{ℕ, _+_, _*_, _≤_, _<_}
+use mathlib.Core.Path.{_≡_}
+use mathlib.Core.Bool.{Bool}
+use mathlib.Core.List.{List}
+use lib.ListN.{length, getD}
+use lib.Dec.{T}
+use Rattle.graph.specs.Numbers.{least}
+use Rattle.graph.specs.Pivot.{listed}
+
+-- ord 0, .. ord (n - 1) are the vertices, each once; the first whose test holds is the pivot that the list gives
+pub record Arranged (n : ℕ) (list : List ℕ) (ord : ℕ → ℕ) : Type 0 where
+  pub low : (i : ℕ) → i < n → ord i < n
+  pub one : (i j : ℕ) → i < n → j < n → ord i ≡ ord j → i ≡ j
+  pub exact : (p : ℕ → Bool) (v : ℕ) → v < n → T (p v) → ord (least n (λ i. p (ord i))) ≡ listed n p list
+
+-- where the order stands in the working numbers
+abbrev pub orderAt : ℕ → ℕ → ℕ
+orderAt b n = b + 9 * n + 2
+
+-- the order is written to its region; the colours at b may change, everything else is as it was
+pub record Ordered (n : ℕ) (list : List ℕ) (b : ℕ) (w w' : List ℕ) : Type 0 where
+  pub long : length w' ≡ length w
+  pub order : Arranged n list (λ i. getD w' (orderAt b n + i) 0)
+  pub low : (j : ℕ) → j < b → getD w' j 0 ≡ getD w j 0
+  pub between : (j : ℕ) → b + n ≤ j → j < orderAt b n → getD w' j 0 ≡ getD w j 0
+  pub high : (j : ℕ) → orderAt b n + n ≤ j → getD w' j 0 ≡ getD w j 0

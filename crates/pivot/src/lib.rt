@@ -1,0 +1,1 @@
+// The choice of a pivot: the generator, the member at a place of a set, the order of a caller's list.
