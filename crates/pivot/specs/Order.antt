@@ -18,10 +18,17 @@ pub record Arranged (n : ℕ) (list : List ℕ) (ord : ℕ → ℕ) : Type 0 whe
 abbrev pub orderAt : ℕ → ℕ → ℕ
 orderAt b n = b + 9 * n + 2
 
--- the order is written to its region; the colours at b may change, everything else is as it was
-pub record Ordered (n : ℕ) (list : List ℕ) (b : ℕ) (w w' : List ℕ) : Type 0 where
+-- the vertex at place i of the order
+abbrev pub order : ℕ → ℕ → List ℕ → ℕ → ℕ
+order b n w i = getD w (orderAt b n + i) 0
+
+-- only the colours at b and the order may have changed
+pub record Beside (b n : ℕ) (w w' : List ℕ) : Type 0 where
   pub long : length w' ≡ length w
-  pub order : Arranged n list (λ i. getD w' (orderAt b n + i) 0)
   pub low : (j : ℕ) → j < b → getD w' j 0 ≡ getD w j 0
   pub between : (j : ℕ) → b + n ≤ j → j < orderAt b n → getD w' j 0 ≡ getD w j 0
   pub high : (j : ℕ) → orderAt b n + n ≤ j → getD w' j 0 ≡ getD w j 0
+
+pub record Ordered (n : ℕ) (list : List ℕ) (b : ℕ) (w w' : List ℕ) : Type 0 where
+  pub order : Arranged n list (order b n w')
+  pub beside : Beside b n w w'

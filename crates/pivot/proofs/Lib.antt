@@ -1,0 +1,3 @@
+pub mod Product
+pub mod Members
+pub mod Places

@@ -1,0 +1,69 @@
+-- How the order is filled: a vertex is marked when it takes its place.
+use Prim.Native.Nat.{ℕ, _+_, _*_, _≤_, _<_}
+use mathlib.Core.Path.{_≡_}
+use mathlib.Core.Bool.{Bool, cond, _&&_}
+use mathlib.Core.List.{List}
+use lib.ListN.{length, getD, set}
+use lib.Dec.{T, eqb, ltb}
+use Rattle.graph.specs.Limits.{mostVertices}
+use Rattle.graph.specs.Memory.{Framed}
+use Rattle.graph.specs.Numbers.{least, many}
+use Rattle.graph.specs.Pivot.{listed}
+use Rattle.pivot.specs.Order.{orderAt, order, Arranged, Beside}
+
+-- v's mark: 1 once it has its place
+abbrev pub marked : ℕ → List ℕ → ℕ → ℕ
+marked b w v = getD w (b + v) 0
+
+pub record Room (b n : ℕ) (w : List ℕ) : Type 0 where
+  pub small : n ≤ mostVertices
+  pub fits : orderAt b n + n ≤ length w
+
+-- there is room for v, if it has still to be placed
+pub record Place (b n k v : ℕ) (w : List ℕ) : Type 0 where
+  pub room : Room b n w
+  pub free : v < n → marked b w v ≡ 0 → k < n
+
+-- v takes place k if it is a vertex and not marked
+pub data Placed (b n k v : ℕ) (w : List ℕ) : List ℕ → ℕ → Type 0 where
+  outside : n ≤ v → Placed b n k v w w k
+  again : v < n → (marked b w v ≡ 0 → ⊥) → Placed b n k v w w k
+  placed : v < n → marked b w v ≡ 0 → Placed b n k v w (set (set w (b + v) 1) (orderAt b n + k) v) (k + 1)
+
+-- no vertex is marked
+pub record Unmarked (b n : ℕ) (w w' : List ℕ) : Type 0 where
+  pub framed : Framed b (b + n) w w'
+  pub zero : (v : ℕ) → v < n → marked b w' v ≡ 0
+
+-- the first k places hold the marked vertices, each once
+pub record Filling (n k : ℕ) (mark ord : ℕ → ℕ) : Type 0 where
+  pub low : (i : ℕ) → i < k → ord i < n
+  pub one : (i j : ℕ) → i < k → j < k → ord i ≡ ord j → i ≡ j
+  pub in : (i : ℕ) → i < k → mark (ord i) ≡ 1
+  pub out : (v : ℕ) → v < n → mark v ≡ 1 → (i : ℕ) × (i < k) × (ord i ≡ v)
+  pub binary : (v : ℕ) → v < n → mark v ≤ 1
+  pub size : many (λ v. eqb (mark v) 1) n ≡ k
+
+-- the first of the k places that passes is the list's pivot; if none passes, the pivot is rest's
+pub record Leads (n : ℕ) (list : List ℕ) (k : ℕ) (ord : ℕ → ℕ) (rest : (ℕ → Bool) → ℕ) : Type 0 where
+  pub hit : (p : ℕ → Bool) (i : ℕ) → i < k → T (p (ord i)) → ((j : ℕ) → j < i → T (p (ord j)) → ⊥) → ord i ≡ listed n p list
+  pub miss : (p : ℕ → Bool) → ((j : ℕ) → j < k → T (p (ord j)) → ⊥) → rest p ≡ listed n p list
+
+pub record Begun (b n : ℕ) (w : List ℕ) : Type 0 where
+  pub room : Room b n w
+  pub zero : (v : ℕ) → v < n → marked b w v ≡ 0
+
+-- the vertices of the list are placed
+pub record Listing (b n : ℕ) (list w w' : List ℕ) (k : ℕ) : Type 0 where
+  pub beside : Beside b n w w'
+  pub filling : Filling n k (marked b w') (order b n w')
+  pub leads : Leads n list k (order b n w') (least n)
+
+pub record Rest (b n k : ℕ) (w : List ℕ) : Type 0 where
+  pub room : Room b n w
+  pub filling : Filling n k (marked b w) (order b n w)
+
+-- all are placed, after whatever list led here
+pub record Filled (b n k : ℕ) (w w' : List ℕ) : Type 0 where
+  pub beside : Beside b n w w'
+  pub order : (list : List ℕ) → Leads n list k (order b n w) (least n) → Arranged n list (order b n w')

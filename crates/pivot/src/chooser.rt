@@ -1,0 +1,45 @@
+// The chooser: a kind of pivot and a 32-bit state, lent by `&mut`.
+ghost use mathlib.Core.Path.{_≡_};
+ghost use Prim.Native.Nat.{_*_, _%_, _^_};
+ghost use Rattle.graph.specs.Pivot.{draw as drawn, draws as drawn·times};
+ghost use Rattle.pivot.specs.Chosen.{Drawn, Advanced};
+
+#[repr(C)]
+pub struct Chooser {
+    pub kind: u32,
+    pub state: u32,
+}
+
+// The product, modulo 2^32.
+pub fn wrapping_mul_u32(a: u32, b: u32) -> u32
+    ensures { λ r. ⌜ r ≡ (a * b) % 2 ^ 32 ⌝ }
+{
+    (((a as u64) * (b as u64)) % 4294967296) as u32
+}
+
+// The state after `state`.
+pub fn next(state: u32) -> u32
+    ensures { λ r. ⌜ r ≡ drawn state ⌝ }
+{
+    std::num::wrapping_add_u32(wrapping_mul_u32(1664525, state), 1013904223)
+}
+
+// One draw: the chooser is advanced where it stands.
+pub fn draw(c: &mut Chooser) -> u32
+    ensures { λ r. ⌜ Drawn r (now (c .entry)) (now (c .exit)) ⌝ }
+{
+    let s = next(c.state);
+    c.state = s;
+    s
+}
+
+// k draws.
+pub fn draws(c: &mut Chooser, k: usize)
+    ensures { λ _. ⌜ Advanced k (now (c .entry)) (now (c .exit)) ⌝ }
+{
+    let mut left = k;
+    while 0 < left {
+        left = left - 1;
+        draw(c);
+    }
+}
