@@ -1,3 +1,5 @@
 pub mod Product
 pub mod Members
 pub mod Places
+pub mod Again
+pub mod Lent

@@ -1,22 +1,24 @@
 -- Filling the order: one vertex placed, and the end.
-use Prim.Native.Nat.{ℕ, zero, suc, _+_, _*_, _≤_, _<_}
+use Prim.Native.Nat.{ℕ, zero, suc, _+_, _≤_, _<_}
 use native.Mathlib.Omega.{arith}
 use native.Mathlib.Decide.{decLt, ℕ-discrete}
 use native.Mathlib.Nat.{not-suc-le-zero}
+use native.Mathlib.Numerals.{add-one}
 use mathlib.Core.Path.{_≡_, refl, sym, ap, subst, _∙_}
 use mathlib.Core.Bool.{Bool, true, false, cond, _&&_}
 use mathlib.Core.List.{List, [], _∷_}
-use lib.ListN.{length, getD, set, length-set}
-use lib.Seq.{getD-set-same, getD-set-other}
+use lib.ListN.{length, getD, set, drop, length-set}
+use lib.Seq.{drop-cons, drop-length, getD-set-same, getD-set-other}
 use lib.Dec.{T, eqb, ltb, eqb→eq, lt→ltb, ltb→lt}
 use Rattle.graph.specs.Memory.{Framed}
 use Rattle.graph.specs.Numbers.{least, many}
 use Rattle.graph.specs.Pivot.{listed}
+use Rattle.graph.proofs.Memory.{framed-none}
 use Rattle.graph.proofs.Counts.{many-le, many-mono, many-more, many-one}
 use Rattle.graph.proofs.Pivot.{lowest-in}
-use Rattle.graph.proofs.Tests.{and-l, and-r, and-make, eq-T, T-dec, cond-true, cond-false, least-first, least-passes}
+use Rattle.graph.proofs.Tests.{and-l, and-r, and-make, eq-T, cond-true, cond-false, least-first, least-passes}
 use Rattle.pivot.specs.Order.{orderAt, order, Arranged, Beside}
-use Rattle.pivot.specs.Placing.{marked, Room, Placed, outside, again, placed, Filling, Leads}
+use Rattle.pivot.specs.Placing.{marked, Room, Placed, outside, again, placed, Filling, Leads, Listing, Filled}
 
 pub beside-none : (b n : ℕ) (w : List ℕ) → Beside b n w w
 beside-none b n w = record { long = refl; low = λ j h. refl; between = λ j h k. refl; high = λ j h. refl }
@@ -63,7 +65,7 @@ module _ {n k : ℕ} {mark ord : ℕ → ℕ} (f : Filling n k mark ord) where
           | no q ↦ let e : i ≡ k = omega arith in omega (arith, ap ord' e)
         ];
         one = one;
-        in = in';
+        inside = inside;
         out = out;
         binary = λ u h. elim (ℕ-discrete u v) as (λ _. mark' u ≤ 1) [
           | yes e ↦ omega (arith, ap mark' e)
@@ -74,7 +76,7 @@ module _ {n k : ℕ} {mark ord : ℕ → ℕ} (f : Filling n k mark ord) where
     where
       -- v is none of the vertices placed before
       fresh : (i : ℕ) → i < k → ord i ≡ v → ⊥
-      fresh i q e = omega (arith, f .in i q, ap mark e)
+      fresh i q e = omega (arith, f .inside i q, ap mark e)
 
       one : (i j : ℕ) → i < k + 1 → j < k + 1 → ord' i ≡ ord' j → i ≡ j
       one i j hi hj e = elim (decLt i k) as (λ _. i ≡ j) [
@@ -88,9 +90,9 @@ module _ {n k : ℕ} {mark ord : ℕ → ℕ} (f : Filling n k mark ord) where
         ]
       ]
 
-      in' : (i : ℕ) → i < k + 1 → mark' (ord' i) ≡ 1
-      in' i h = elim (decLt i k) as (λ _. mark' (ord' i) ≡ 1) [
-        | yes q ↦ ap mark' (os i q) ∙ ms (ord i) (f .low i q) (fresh i q) ∙ f .in i q
+      inside : (i : ℕ) → i < k + 1 → mark' (ord' i) ≡ 1
+      inside i h = elim (decLt i k) as (λ _. mark' (ord' i) ≡ 1) [
+        | yes q ↦ ap mark' (os i q) ∙ ms (ord i) (f .low i q) (fresh i q) ∙ f .inside i q
         | no q ↦ let e : i ≡ k = omega arith in ap mark' (ap ord' e ∙ o) ∙ m
       ]
 
@@ -119,7 +121,7 @@ Turn n k ord v rest rest' = (p : ℕ → Bool) → ((j : ℕ) → j < k → T (p
 module _ {n k : ℕ} {list : List ℕ} {ord : ℕ → ℕ} {rest rest' : (ℕ → Bool) → ℕ} (d : Leads n list k ord rest) (v : ℕ) (turn : Turn n k ord v rest rest') where
   -- v does not pass where no place before does
   pub leads-same : ((p : ℕ → Bool) → ((j : ℕ) → j < k → T (p (ord j)) → ⊥) → T (ltb v n && p v) → ⊥) → Leads n list k ord rest'
-  leads-same h = record { hit = d .hit; miss = λ p none. sym (cond-false _ v (rest' p) (h p none)) ∙ sym (turn p none) ∙ d .miss p none }
+  leads-same h = record { hit = d .hit; miss = λ p none. sym (cond-false (ltb v n && p v) v (rest' p) (h p none)) ∙ sym (turn p none) ∙ d .miss p none }
 
   pub leads-more : (ord' : ℕ → ℕ) → v < n → ord' k ≡ v → ((i : ℕ) → i < k → ord' i ≡ ord i) → Leads n list (k + 1) ord' rest'
   leads-more ord' l o os = record { hit = hit; miss = miss }
@@ -134,13 +136,13 @@ module _ {n k : ℕ} {list : List ℕ} {ord : ℕ → ℕ} {rest rest' : (ℕ �
           let e : i ≡ k = omega arith in
           let s : ord' i ≡ v = ap ord' e ∙ o in
           let all : (j : ℕ) → j < k → T (p (ord j)) → ⊥ = back p k (omega arith) (λ j h'. none j (omega arith)) in
-          s ∙ sym (cond-true _ v (rest' p) (and-make _ _ (lt→ltb v n l) (subst (λ (u : ℕ). T (p u)) s t))) ∙ sym (turn p all) ∙ d .miss p all
+          s ∙ sym (cond-true (ltb v n && p v) v (rest' p) (and-make (ltb v n) (p v) (lt→ltb v n l) (subst (λ (u : ℕ). T (p u)) s t))) ∙ sym (turn p all) ∙ d .miss p all
       ]
 
       miss : (p : ℕ → Bool) → ((j : ℕ) → j < k + 1 → T (p (ord' j)) → ⊥) → rest' p ≡ listed n p list
       miss p none =
           let all : (j : ℕ) → j < k → T (p (ord j)) → ⊥ = back p k (omega arith) (λ j h'. none j (omega arith)) in
-          sym (cond-false _ v (rest' p) (λ t. none k (omega arith) (subst (λ (u : ℕ). T (p u)) (sym o) (and-r (ltb v n) _ t)))) ∙ sym (turn p all) ∙ d .miss p all
+          sym (cond-false (ltb v n && p v) v (rest' p) (λ t. none k (omega arith) (subst (λ (u : ℕ). T (p u)) (sym o) (and-r (ltb v n) (p v) t)))) ∙ sym (turn p all) ∙ d .miss p all
 
 -- what placing v leaves
 pub record Step (b n k v : ℕ) (w w' : List ℕ) (r : ℕ) : Type 0 where
@@ -157,7 +159,7 @@ place-step {b} {n} {k} {v} {w} room f (outside h) =
       filling = f;
       here = λ l. absurd (omega arith);
       kept = λ u l e. e;
-      leads = λ list rest rest' turn d. leads-same d v turn (λ p none t. omega (arith, ltb→lt v n (and-l (ltb v n) _ t)));
+      leads = λ list rest rest' turn d. leads-same d v turn (λ p none t. omega (arith, ltb→lt v n (and-l (ltb v n) (p v) t)));
     }
 place-step {b} {n} {k} {v} {w} room f (again h m) =
     let is : marked b w v ≡ 1 = omega (arith, f .binary v h) in
@@ -166,15 +168,15 @@ place-step {b} {n} {k} {v} {w} room f (again h m) =
       filling = f;
       here = λ l. is;
       kept = λ u l e. e;
-      leads = λ list rest rest' turn d. leads-same d v turn (λ p none t. let (i, q, e) = f .out v h is in none i q (subst (λ (u : ℕ). T (p u)) (sym e) (and-r (ltb v n) _ t)));
+      leads = λ list rest rest' turn d. leads-same d v turn (λ p none t. let (i, q, e) = f .out v h is in none i q (subst (λ (u : ℕ). T (p u)) (sym e) (and-r (ltb v n) (p v) t)));
     }
 place-step {b} {n} {k} {v} {w} room f (placed h z) =
     record {
       beside = record {
         long = length-set w₁ _ v ∙ length-set w _ 1;
-        low = λ j l. else j (omega arith) (omega arith);
-        between = λ j l m. else j (omega arith) (omega arith);
-        high = λ j l. else j (omega arith) (omega arith);
+        low = λ j l. else j (λ e. omega arith) (λ e. omega arith);
+        between = λ j l m. else j (λ e. omega arith) (λ e. omega arith);
+        high = λ j l. else j (λ e. omega arith) (λ e. omega (arith, free));
       };
       filling = filling-more f (marked b w₂) (order b n w₂) v h z here others there before;
       here = λ l. here;
@@ -204,7 +206,7 @@ place-step {b} {n} {k} {v} {w} room f (placed h z) =
     others u l d = else (b + u) (λ e. d (omega arith)) (λ e. omega arith)
 
     there : order b n w₂ k ≡ v
-    there = getD-set-same w₁ (orderAt b n + k) v 0 (omega (arith, room .fits, length-set w (b + v) 1))
+    there = getD-set-same w₁ (orderAt b n + k) v 0 (omega (arith, free, room .fits, length-set w (b + v) 1))
 
     before : (i : ℕ) → i < k → order b n w₂ i ≡ order b n w i
     before i l = else (orderAt b n + i) (λ e. omega arith) (λ e. omega arith)
@@ -237,25 +239,26 @@ rising-turn {n} {k} {mark} {ord} f v l below p none = go (ltb v n && p v) (λ t.
 pub leads-none : (n : ℕ) (list : List ℕ) (ord : ℕ → ℕ) → Leads n list 0 ord (λ p. listed n p list)
 leads-none n list ord = record { hit = λ p i h. absurd (not-suc-le-zero h); miss = λ p none. refl }
 
+-- nobody passes
+nobody : (p : ℕ → Bool) (m : ℕ) → ((v : ℕ) → v < m → T (p v) → ⊥) → many p m ≡ 0
+unfolding many
+nobody p zero h = refl
+nobody p (suc m) h = rw (cond-false {A = ℕ} (p m) 1 0 (h m (omega arith))) (omega (arith, nobody p m (λ v l. h v (omega arith))))
+
 pub filling-none : (n : ℕ) (mark ord : ℕ → ℕ) → ((v : ℕ) → v < n → mark v ≡ 0) → Filling n 0 mark ord
 filling-none n mark ord z =
     record {
       low = λ i h. absurd (not-suc-le-zero h);
       one = λ i j h. absurd (not-suc-le-zero h);
-      in = λ i h. absurd (not-suc-le-zero h);
+      inside = λ i h. absurd (not-suc-le-zero h);
       out = λ v l e. absurd (omega (arith, z v l));
       binary = λ v l. omega (arith, z v l);
-      size = nobody n (λ v l t. omega (arith, z v l, eqb→eq (mark v) 1 t));
+      size = nobody (λ v. eqb (mark v) 1) n (λ v l t. omega (arith, z v l, eqb→eq (mark v) 1 t));
     }
-  where
-    nobody : (m : ℕ) → ((v : ℕ) → v < m → T (eqb (mark v) 1) → ⊥) → many (λ v. eqb (mark v) 1) m ≡ 0
-    unfolding many
-    nobody zero h = refl
-    nobody (suc m) h = rw (cond-false {A = ℕ} (eqb (mark m) 1) 1 0 (h m (omega arith))) (nobody m (λ v l. h v (omega arith)))
 
 pub leads-all : {n k : ℕ} {list : List ℕ} {mark ord : ℕ → ℕ} → Filling n k mark ord → ((v : ℕ) → v < n → mark v ≡ 1) → Leads n list k ord (least n) → Arranged n list ord
 leads-all {n} {k} {list} {mark} {ord} f all d =
-    record { low = λ i l. f .low i (omega arith); one = λ i j h m. f .one i j (omega arith) (omega arith); exact = exact }
+    record { low = λ i l. f .low i (omega (arith, full)); one = λ i j h m. f .one i j (omega (arith, full)) (omega (arith, full)); exact = exact }
   where
     full : k ≡ n
     full = filling-full f all
@@ -263,5 +266,83 @@ leads-all {n} {k} {list} {mark} {ord} f all d =
     exact : (p : ℕ → Bool) (v : ℕ) → v < n → T (p v) → ord (least n (λ i. p (ord i))) ≡ listed n p list
     exact p v l t =
         let (i, q, e) = f .out v l (all v l) in
-        let (m, s) = lowest-in n (λ j. p (ord j)) i (omega arith) (subst (λ (u : ℕ). T (p u)) (sym e) t) in
-        d .hit p (least n (λ j. p (ord j))) (omega arith) s (λ j h u. omega (arith, least-first n (λ j. p (ord j)) j (omega arith) u))
+        let (m, s) = lowest-in n (λ j. p (ord j)) i (omega (arith, full)) (subst (λ (u : ℕ). T (p u)) (sym e) t) in
+        d .hit p (least n (λ j. p (ord j))) (omega (arith, full)) s (λ j h u. omega (arith, least-first n (λ j. p (ord j)) j (omega arith) u))
+
+-- the marks below v are cleared
+pub record Clearing (b v : ℕ) (w w' : List ℕ) : Type 0 where
+  pub framed : Framed b (b + v) w w'
+  pub zero : (u : ℕ) → u < v → marked b w' u ≡ 0
+
+pub clearing-none : (b : ℕ) (w : List ℕ) → Clearing b 0 w w
+clearing-none b w = record { framed = framed-none b (b + 0) w; zero = λ u l. absurd (not-suc-le-zero l) }
+
+pub clearing-step : {b v : ℕ} {w w' : List ℕ} → b + v < length w' → Clearing b v w w' → Clearing b (v + 1) w (set w' (b + v) 0)
+clearing-step {b} {v} {w} {w'} l c =
+    record {
+      framed = record {
+        long = length-set w' (b + v) 0 ∙ c .framed .long;
+        low = λ j h. getD-set-other w' (b + v) j 0 0 (λ e. omega arith) ∙ c .framed .low j h;
+        high = λ j h. getD-set-other w' (b + v) j 0 0 (λ e. omega arith) ∙ c .framed .high j (omega arith);
+      };
+      zero = λ u h. elim (ℕ-discrete u v) as (λ _. marked b (set w' (b + v) 0) u ≡ 0) [
+        | yes e ↦ ap (λ (x : ℕ). getD (set w' (b + v) 0) (b + x) 0) e ∙ getD-set-same w' (b + v) 0 0 l
+        | no d ↦ getD-set-other w' (b + v) (b + u) 0 0 (λ e. d (omega arith)) ∙ c .zero u (omega arith)
+      ];
+    }
+
+pub room-kept : {b n : ℕ} {w w' : List ℕ} → length w' ≡ length w → Room b n w → Room b n w'
+room-kept e r = record { small = r .small; fits = omega (arith, r .fits) }
+
+-- the first i entries of the list have their places
+pub record Listed (b n : ℕ) (list : List ℕ) (i k : ℕ) (w w' : List ℕ) : Type 0 where
+  pub room : Room b n w'
+  pub beside : Beside b n w w'
+  pub filling : Filling n k (marked b w') (order b n w')
+  pub leads : Leads n list k (order b n w') (λ p. listed n p (drop i list))
+
+pub listed-begin : {b n : ℕ} {w : List ℕ} (list : List ℕ) → Room b n w → ((v : ℕ) → v < n → marked b w v ≡ 0) → Listed b n list 0 0 w w
+listed-begin {b} {n} {w} list room z = record { room = room; beside = beside-none b n w; filling = filling-none n (marked b w) (order b n w) z; leads = leads-none n list (order b n w) }
+
+pub listed-step : {b n : ℕ} {list : List ℕ} {i k : ℕ} {w w₁ w₂ : List ℕ} {r : ℕ} → i < length list → Listed b n list i k w w₁ → Placed b n k (getD list i 0) w₁ w₂ r → Listed b n list (i + 1) r w w₂
+listed-step {b} {n} {list} {i} {k} {w} {w₁} {w₂} {r} l s p =
+    let t = place-step (s .room) (s .filling) p in
+    let e : drop i list ≡ getD list i 0 ∷ drop (i + 1) list = rw add-one (drop-cons list i 0 l) in
+    record {
+      room = room-kept (t .beside .long) (s .room);
+      beside = beside-more (s .beside) (t .beside);
+      filling = t .filling;
+      leads = t .leads list (λ p. listed n p (drop i list)) (λ p. listed n p (drop (i + 1) list)) (rw e (listed-turn n k (order b n w₁) (getD list i 0) (drop (i + 1) list))) (s .leads);
+    }
+
+pub listed-all : {b n : ℕ} {list : List ℕ} {k : ℕ} {w w' : List ℕ} → Listed b n list (length list) k w w' → Listing b n list w w' k
+listed-all {b} {n} {list} {k} {w} {w'} s =
+    record { beside = s .beside; filling = s .filling; leads = record { hit = s .leads .hit; miss = λ p none. sym (listed-end n p) ∙ ap (listed n p) (sym (drop-length list)) ∙ s .leads .miss p none } }
+
+-- the vertices below v have their places, after whatever list led here
+pub record Rising (b n k₀ v k : ℕ) (w w' : List ℕ) : Type 0 where
+  pub room : Room b n w'
+  pub beside : Beside b n w w'
+  pub filling : Filling n k (marked b w') (order b n w')
+  pub below : (u : ℕ) → u < v → marked b w' u ≡ 1
+  pub leads : (list : List ℕ) → Leads n list k₀ (order b n w) (least n) → Leads n list k (order b n w') (least n)
+
+pub rising-begin : {b n k : ℕ} {w : List ℕ} → Room b n w → Filling n k (marked b w) (order b n w) → Rising b n k 0 k w w
+rising-begin {b} {n} {k} {w} room f = record { room = room; beside = beside-none b n w; filling = f; below = λ u l. absurd (not-suc-le-zero l); leads = λ list d. d }
+
+pub rising-step : {b n k₀ v k : ℕ} {w w₁ w₂ : List ℕ} {r : ℕ} → v < n → Rising b n k₀ v k w w₁ → Placed b n k v w₁ w₂ r → Rising b n k₀ (v + 1) r w w₂
+rising-step {b} {n} {k₀} {v} {k} {w} {w₁} {w₂} {r} l s p =
+    let t = place-step (s .room) (s .filling) p in
+    record {
+      room = room-kept (t .beside .long) (s .room);
+      beside = beside-more (s .beside) (t .beside);
+      filling = t .filling;
+      below = λ u h. elim (ℕ-discrete u v) as (λ _. marked b w₂ u ≡ 1) [
+        | yes e ↦ ap (marked b w₂) e ∙ t .here l
+        | no d ↦ t .kept u (omega arith) (s .below u (omega arith))
+      ];
+      leads = λ list d. t .leads list (least n) (least n) (rising-turn (s .filling) v l (s .below)) (s .leads list d);
+    }
+
+pub rising-all : {b n k₀ k : ℕ} {w w' : List ℕ} → Rising b n k₀ n k w w' → Filled b n k₀ w w'
+rising-all s = record { beside = s .beside; order = λ list d. leads-all (s .filling) (s .below) (s .leads list d) }

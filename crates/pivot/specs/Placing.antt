@@ -39,7 +39,7 @@ pub record Unmarked (b n : ℕ) (w w' : List ℕ) : Type 0 where
 pub record Filling (n k : ℕ) (mark ord : ℕ → ℕ) : Type 0 where
   pub low : (i : ℕ) → i < k → ord i < n
   pub one : (i j : ℕ) → i < k → j < k → ord i ≡ ord j → i ≡ j
-  pub in : (i : ℕ) → i < k → mark (ord i) ≡ 1
+  pub inside : (i : ℕ) → i < k → mark (ord i) ≡ 1
   pub out : (v : ℕ) → v < n → mark v ≡ 1 → (i : ℕ) × (i < k) × (ord i ≡ v)
   pub binary : (v : ℕ) → v < n → mark v ≤ 1
   pub size : many (λ v. eqb (mark v) 1) n ≡ k

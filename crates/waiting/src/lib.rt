@@ -1,0 +1,28 @@
+// The list of waiting parts: records lent by the caller as a slice.
+ghost use mathlib.Core.Path.{_≡_};
+ghost use Prim.Native.Nat.{_<_};
+ghost use lib.ListN.{length, set, getD};
+ghost use Rattle.waiting.specs.Records.{none};
+
+// A waiting part: its lowest vertex, and 1 if method 1 has still to slice it.
+#[repr(C)]
+pub struct Part {
+    pub first: u32,
+    pub slicing: u32,
+}
+
+// The record at place i.
+pub fn at(parts: &[Part], i: usize) -> Part
+    requires { ⌜ i < length (now parts) ⌝ }
+    ensures { λ r. ⌜ r ≡ getD (now (parts .entry)) i none ⌝ }
+{
+    parts[i]
+}
+
+// Puts a record at place i.
+pub fn put(parts: &mut [Part], i: usize, p: Part)
+    requires { ⌜ i < length (now parts) ⌝ }
+    ensures { λ _. ⌜ now (parts .exit) ≡ set (now (parts .entry)) i p ⌝ }
+{
+    parts[i] = p;
+}
