@@ -133,10 +133,10 @@ module _ {n k : ℕ} {list : List ℕ} {ord : ℕ → ℕ} {rest rest' : (ℕ �
       hit p i h t none = elim (decLt i k) as (λ _. ord' i ≡ listed n p list) [
         | yes q ↦ os i q ∙ d .hit p i q (subst (λ (u : ℕ). T (p u)) (os i q) t) (back p i (omega arith) none)
         | no q ↦
-          let e : i ≡ k = omega arith in
-          let s : ord' i ≡ v = ap ord' e ∙ o in
-          let all : (j : ℕ) → j < k → T (p (ord j)) → ⊥ = back p k (omega arith) (λ j h'. none j (omega arith)) in
-          s ∙ sym (cond-true (ltb v n && p v) v (rest' p) (and-make (ltb v n) (p v) (lt→ltb v n l) (subst (λ (u : ℕ). T (p u)) s t))) ∙ sym (turn p all) ∙ d .miss p all
+            let e : i ≡ k = omega arith in
+            let s : ord' i ≡ v = ap ord' e ∙ o in
+            let all : (j : ℕ) → j < k → T (p (ord j)) → ⊥ = back p k (omega arith) (λ j h'. none j (omega arith)) in
+            s ∙ sym (cond-true (ltb v n && p v) v (rest' p) (and-make (ltb v n) (p v) (lt→ltb v n l) (subst (λ (u : ℕ). T (p u)) s t))) ∙ sym (turn p all) ∙ d .miss p all
       ]
 
       miss : (p : ℕ → Bool) → ((j : ℕ) → j < k + 1 → T (p (ord' j)) → ⊥) → rest' p ≡ listed n p list
@@ -227,8 +227,8 @@ rising-turn {n} {k} {mark} {ord} f v l below p none = go (ltb v n && p v) (λ t.
     first : T (p v) → least n p ≡ v
     first t = elim (decLt (least n p) v) as (λ _. least n p ≡ v) [
       | yes q ↦
-        let (i, m, e) = f .out (least n p) (omega arith) (below (least n p) q) in
-        absurd (none i m (subst (λ (u : ℕ). T (p u)) (sym e) (least-passes n p (omega arith))))
+          let (i, m, e) = f .out (least n p) (omega arith) (below (least n p) q) in
+          absurd (none i m (subst (λ (u : ℕ). T (p u)) (sym e) (least-passes n p (omega arith))))
       | no q ↦ omega (arith, least-first n p v l t)
     ]
 

@@ -18,7 +18,7 @@ same-length : tie.Need-same-length
 same-length c = search needs
 
 returns : tie.Need-returns
-returns c =     let u = c .before .before .before .before .before .before .before .before .before .before .unmark .ensures in
+returns c = let u = c .before .before .before .before .before .before .before .before .before .before .unmark .ensures in
     record { order = c .before .before .others .ensures .order (c .before .before .before .before .before .before .before .before .before .before .before .before .before .before .args .list .now) (c .before .before .before .before .before .before .listed .ensures .leads); beside = beside-more (beside-framed (u .framed)) (beside-more (c .before .before .before .before .before .before .listed .ensures .beside) (c .before .before .others .ensures .beside)) }
 
 pub arrange-spec : {M : Type 1} → statement M

@@ -41,7 +41,7 @@ same-length : tie.Need-same-length Inv-loop μ-loop
 same-length c = c .before .loop .inv .1 .beside .long
 
 returns : tie.Need-returns Inv-loop μ-loop
-returns c =     let e : c .before .loop .i ≡ length (c .before .before .before .before .args .list .now) = omega arith in
+returns c = let e : c .before .loop .i ≡ length (c .before .before .before .before .args .list .now) = omega arith in
     listed-all (rw e at (c .before .loop .inv .1))
 
 pub listed-spec : {M : Type 1} → statement M

@@ -31,7 +31,7 @@ same-length : tie.Need-same-length Inv-loop μ-loop
 same-length c = c .before .loop .inv .1 .beside .long
 
 returns : tie.Need-returns Inv-loop μ-loop
-returns c =     let e : c .before .loop .v ≡ c .before .before .before .args .n = omega arith in
+returns c = let e : c .before .loop .v ≡ c .before .before .before .args .n = omega arith in
     rising-all (rw e at (c .before .loop .inv .1))
 
 pub others-spec : {M : Type 1} → statement M

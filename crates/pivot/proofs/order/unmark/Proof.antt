@@ -33,14 +33,14 @@ loop-less : tie.Need-loop-less Inv-loop μ-loop
 loop-less c = search needs
 
 loop-again : tie.Need-loop-again Inv-loop μ-loop
-loop-again c =     let r = c .before .loop .inv .1 in
+loop-again c = let r = c .before .loop .inv .1 in
     (omega arith, room-kept (length-set (c .before .loop .w) (c .before .before .args .b + c .before .loop .v) 0) r, clearing-step (omega (arith, r .fits)) (c .before .loop .inv .2))
 
 same-length : tie.Need-same-length Inv-loop μ-loop
 same-length c = c .before .loop .inv .2 .framed .long
 
 returns : tie.Need-returns Inv-loop μ-loop
-returns c =     let e : c .before .loop .v ≡ c .before .before .args .n = omega arith in
+returns c = let e : c .before .loop .v ≡ c .before .before .args .n = omega arith in
     let k = rw e at (c .before .loop .inv .2) in
     record { framed = k .framed; zero = k .zero }
 

@@ -34,12 +34,12 @@ loop-less : tie.Need-loop-less Inv-loop μ-loop
 loop-less c = omega (arith, from-low (c .before .before .before .loop .inv .0))
 
 loop-again : tie.Need-loop-again Inv-loop μ-loop
-loop-again c =     let f = c .before .before .before .loop .inv .0 in
+loop-again c = let f = c .before .before .before .loop .inv .0 in
     let h : bit (c .before .before .before .before .before .args .words .now) (c .before .before .before .loop .u) ≤ c .before .before .before .loop .k = omega (arith, leb-true, c .before .before .has .ensures) in
     rw (c .has2 .ensures) (from-next f h, next-sum f h ∙ c .before .before .before .loop .inv .1)
 
 returns : tie.Need-returns Inv-loop μ-loop
-returns c =     from-found (c .before .before .loop .inv .0) (omega (arith, leb-false, c .before .has .ensures)) (c .before .before .loop .inv .1)
+returns c = from-found (c .before .before .loop .inv .0) (omega (arith, leb-false, c .before .has .ensures)) (c .before .before .loop .inv .1)
 
 pub from-spec : {M : Type 1} → statement M
 from-spec =

@@ -48,7 +48,7 @@ loop-less : tie.Need-loop-less Inv-loop μ-loop
 loop-less c = omega (arith, from-low (c .before .before .before .loop .inv .0))
 
 loop-again : tie.Need-loop-again Inv-loop μ-loop
-loop-again c =     let f = c .before .before .before .loop .inv .0 in
+loop-again c = let f = c .before .before .before .loop .inv .0 in
     let g = c .shared-slice-known3 .given (c .before .before .before .loop .i) .fits in
     let h : ones (getD (c .before .before .before .before .before .args .words .now) (c .before .before .before .loop .i) 0) ≤ c .before .before .before .loop .rest = omega (arith, leb-true) in
     (from-word (c .before .before .before .loop .i) f g h, word-sum (c .before .before .before .loop .i) f g h ∙ c .before .before .before .loop .inv .1)
@@ -60,7 +60,7 @@ from-requires : tie.Need-from-requires Inv-loop μ-loop
 from-requires c κs = c .before .before .loop .inv .0
 
 returns : tie.Need-returns Inv-loop μ-loop
-returns c =     let e = c .from .ensures in
+returns c = let e = c .from .ensures in
     bit-member (c .before .before .before .before .before .args .words .now) (c .before .before .before .before .before .args .n) (c .from .result) (c .before .before .before .before .before .args .j) (e .low) (e .is) (e .before ∙ c .before .before .before .loop .inv .1) (c .before .before .before .before .before .pre .low)
 
 pub select-spec : {M : Type 1} → statement M
