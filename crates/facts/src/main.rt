@@ -1,49 +1,10 @@
 // Runs the functions on the facts of document 01 and writes what they give.
 mod out;
+mod summaries;
 mod t;
-
-// The table check on T, and at the two sides of the vertex limit.
-fn tables() {
-    let sources = t::sources();
-    let targets = t::targets();
-    out::value(
-        b"table check of T",
-        graph::table::check(6, &sources, &targets) as u64,
-    );
-    out::value(
-        b"table check at n = 65,536",
-        graph::table::check(65536, &sources, &targets) as u64,
-    );
-    out::value(
-        b"table check at n = 65,537",
-        graph::table::check(65537, &sources, &targets) as u64,
-    );
-}
-
-fn sum_up(name: &[u8], n: usize, label: &[u32]) {
-    match summary::summary(n, label) {
-        summary::Answer::Done {
-            own,
-            rings,
-            largest,
-        } => out::row(name, &[own, rings, largest]),
-        summary::Answer::Refused(k) => out::refused(name, k),
-    }
-}
-
-// The summary of T's labels, of no labels, of a wrong column, and of the longest one.
-fn summaries() {
-    let label = t::labels();
-    let zeros = [0u32; 65536];
-    sum_up(b"summary of T", 6, &label);
-    sum_up(b"summary of n = 0", 0, &label[..0]);
-    sum_up(b"summary of 1 0", 2, &[1, 0]);
-    sum_up(b"summary of 65,536 zeros", 65536, &zeros);
-    sum_up(b"summary of T with n = 5", 5, &label);
-    sum_up(b"summary of 0 2", 2, &[0, 2]);
-}
+mod tables;
 
 fn main() {
-    tables();
-    summaries();
+    tables::run();
+    summaries::run();
 }
