@@ -1,4 +1,5 @@
 // Runs the functions on the facts of document 01 and writes what they give.
+mod columns;
 mod out;
 mod summaries;
 mod t;
@@ -7,4 +8,5 @@ mod tables;
 fn main() {
     tables::run();
     summaries::run();
+    columns::run();
 }

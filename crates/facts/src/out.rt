@@ -35,3 +35,17 @@ pub fn refused(name: &[u8], number: u32) {
     item(number as u64);
     end();
 }
+
+pub fn pair(name: &[u8], a: u64, b: u64) {
+    begin(name);
+    item(a);
+    item(b);
+    end();
+}
+
+pub fn said(name: &[u8], words: &[u8]) {
+    begin(name);
+    io::write_all(1, b" ");
+    io::write_all(1, words);
+    end();
+}
