@@ -1,5 +1,6 @@
 // Runs the functions on the facts of document 01 and writes what they give.
 mod columns;
+mod draws;
 mod out;
 mod summaries;
 mod t;
@@ -9,4 +10,5 @@ fn main() {
     tables::run();
     summaries::run();
     columns::run();
+    draws::run();
 }
