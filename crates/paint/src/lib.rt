@@ -6,6 +6,8 @@ ghost use Rattle.graph.specs.Parts.{only};
 ghost use Rattle.paint.specs.Colours.{paint};
 ghost use Rattle.paint.specs.Paint.{VisitAsk, Visited, ScanAsk, Scanned, LevelAsk, Levelled, Spread, StartAsk, Searched};
 
+pub mod distances;
+
 // The queue's new length, and the number of edges looked at.
 pub struct Step {
     pub k: usize,
