@@ -37,13 +37,13 @@ HasOr a n b w k v = Has a b w v ⊎ Queued n b w k v
 
 -- The starts stand in the queue and have the colour 0; a is no distance.
 pub record RoundsAsk (g : Graph) (a ix b : ℕ) (w : List ℕ) (k : ℕ) : Type 0 where
-  pub level : LevelAsk g (paint a 1 a 1) ix b 0 w k
-  pub far : g .n ≤ a
+  pub level : LevelAsk g (paint a 0 a 0) ix b 0 w k
+  pub far : g .n < a
   pub begun : (i : ℕ) → i < k → col b w (que (g .n) b w i) ≡ 0
 
 pub record MeasureAsk (g : Graph) (a ix b p : ℕ) (w : List ℕ) : Type 0 where
   pub laid : Laid g ix b w
   pub small : g .n ≤ mostVertices
   pub fits : b + g .n + g .n ≤ length w
-  pub far : g .n ≤ a
+  pub far : g .n < a
   pub start : p < g .n

@@ -4,7 +4,16 @@ ghost use Rattle.graph.specs.Parts.{only};
 ghost use Rattle.paint.specs.Distances.{Measured, Queued, Has, HasOr, RoundsAsk, MeasureAsk};
 
 // Round after round from the k0 starts of the queue: what has the colour a gets its distance from them. The queue's length.
-pub fn rounds(from: &[u32], to: &[u32], n: usize, w: &mut [u32], ix: usize, b: usize, a: u32, k0: usize) -> usize
+pub fn rounds(
+    from: &[u32],
+    to: &[u32],
+    n: usize,
+    w: &mut [u32],
+    ix: usize,
+    b: usize,
+    a: u32,
+    k0: usize,
+) -> usize
     requires { ⌜ RoundsAsk (graph n (now from) (now to)) a ix b (now w) k0 ⌝ }
     ensures { λ k'. ⌜ Measured (graph n (now (from .entry)) (now (to .entry))) b (HasOr a n b (now (w .entry)) k0) (Queued n b (now (w .entry)) k0) (now (w .entry)) (now (w .exit)) k' ⌝ }
 {
@@ -21,7 +30,16 @@ pub fn rounds(from: &[u32], to: &[u32], n: usize, w: &mut [u32], ix: usize, b: u
 }
 
 // What p reaches through the colour a, which p must have itself, gets its distance from p. The queue's length.
-pub fn measure(from: &[u32], to: &[u32], n: usize, w: &mut [u32], ix: usize, b: usize, p: usize, a: u32) -> usize
+pub fn measure(
+    from: &[u32],
+    to: &[u32],
+    n: usize,
+    w: &mut [u32],
+    ix: usize,
+    b: usize,
+    p: usize,
+    a: u32,
+) -> usize
     requires { ⌜ MeasureAsk (graph n (now from) (now to)) a ix b p (now w) ⌝ }
     ensures { λ k'. ⌜ Measured (graph n (now (from .entry)) (now (to .entry))) b (Has a b (now (w .entry))) (only p) (now (w .entry)) (now (w .exit)) k' ⌝ }
 {

@@ -7,9 +7,6 @@ use Rattle.paint.specs.Paint.{Levelled}
 use Rattle.paint.proofs.Levels.{Turn, level-none, turn, turn-ask, turn-step}
 use Rattle.paint.proofs.level.Statement.{statement}
 use Rattle.paint.proofs.level.Tie as tie
-use Rattle.paint.proofs.level.Reads as reads
-use Rattle.paint.proofs.level.Lts as lts
-use Rattle.paint.proofs.scan.Reads as scan-reads
 
 abbrev Inv-loop : tie.InvT-loop
 Inv-loop from to n w₀ ix b a a2 c c2 h k eb q₀ edges₀ i₀ w q edges i = (h ≤ i) × (i ≤ k) × Levelled (graph n from to) (paint a a2 c c2) b h i w₀ k w q edges

@@ -6,9 +6,6 @@ use Rattle.paint.specs.Paint.{Scanned}
 use Rattle.paint.proofs.Levels.{scan-none, edge-lt, other-lt, scan-ask, scan-step}
 use Rattle.paint.proofs.scan.Statement.{statement}
 use Rattle.paint.proofs.scan.Tie as tie
-use Rattle.paint.proofs.scan.Reads as reads
-use Rattle.paint.proofs.scan.Lts as lts
-use Rattle.paint.proofs.visit.Reads as visit-reads
 
 abbrev Inv-loop : tie.InvT-loop
 Inv-loop n to w₀ eb i0 t b a a2 c c2 k0 i₀ k₀ w i k = (i0 ≤ i) × (i ≤ t) × Scanned (paint a a2 c c2) n eb b to i0 i w₀ k0 w k

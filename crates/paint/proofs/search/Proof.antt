@@ -6,10 +6,6 @@ use Rattle.paint.specs.Colours.{paint}
 use Rattle.paint.proofs.Spreading.{start-visit, start-begun, begun-ask, begun-searched}
 use Rattle.paint.proofs.search.Statement.{statement}
 use Rattle.paint.proofs.search.Tie as tie
-use Rattle.paint.proofs.search.Reads as reads
-use Rattle.paint.proofs.search.Lts as lts
-use Rattle.paint.proofs.spread.Reads as spread-reads
-use Rattle.paint.proofs.visit.Reads as visit-reads
 
 visit-requires : tie.Need-visit-requires
 visit-requires c κs = let s = c .before .before .before .before in start-visit (graph (s .args .n) (s .args .from .now) (s .args .to .now)) (paint (s .args .a) (s .args .a2) (s .args .c) (s .args .c2)) (s .args .ix) (s .args .b) (s .args .w .now) (s .pre .ask) (s .args .p) (s .pre .start)

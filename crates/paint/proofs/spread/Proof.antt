@@ -7,9 +7,6 @@ use Rattle.paint.specs.Paint.{Spread}
 use Rattle.paint.proofs.Spreading.{spread-none, spread-few, spread-ask, spread-step, spread-room}
 use Rattle.paint.proofs.spread.Statement.{statement}
 use Rattle.paint.proofs.spread.Tie as tie
-use Rattle.paint.proofs.spread.Reads as reads
-use Rattle.paint.proofs.spread.Lts as lts
-use Rattle.paint.proofs.level.Reads as level-reads
 
 abbrev Inv-loop : tie.InvT-loop
 Inv-loop from to n w₀ ix b a a2 c c2 k0 h₀ k₀ edges₀ w h k edges = (h ≤ k) × Spread (graph n from to) (paint a a2 c c2) b w₀ k0 h w k edges

@@ -8,9 +8,6 @@ use Rattle.paint.specs.Paint.{Visited}
 use Rattle.paint.proofs.Growth.{k-lt, visit-one, visit-none}
 use Rattle.paint.proofs.visit.Statement.{statement}
 use Rattle.paint.proofs.visit.Tie as tie
-use Rattle.paint.proofs.visit.Reads as reads
-use Rattle.paint.proofs.visit.Lts as lts
-use Rattle.paint.proofs.recolour.Reads as recolour-reads
 
 add-y : tie.Need-add-y
 add-y c = search needs

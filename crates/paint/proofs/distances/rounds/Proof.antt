@@ -1,50 +1,43 @@
+use Prim.Native.Nat.{ℕ, _≤_, _-_}
+use native.Mathlib.Omega.{arith}
+use Rattle.graph.specs.Graph.{graph}
+use Rattle.paint.specs.Distances.{Queued, HasOr}
+use Rattle.paint.proofs.Nearness.{Rounded, rounds-none, rounds-few, rounds-ask, rounds-step, rounds-all}
 use Rattle.paint.proofs.distances.rounds.Statement.{statement}
 use Rattle.paint.proofs.distances.rounds.Tie as tie
-use Rattle.paint.proofs.distances.rounds.Reads as reads
-use Rattle.paint.proofs.distances.rounds.Lts as lts
-use Rattle.paint.proofs.level.Reads as level-reads
 
 abbrev Inv-loop : tie.InvT-loop
-Inv-loop from to n w₀ ix b a k0 h₀ k₀ d₀ w h k d = ?
+Inv-loop from to n w₀ ix b a k0 h₀ k₀ d₀ w h k d = Rounded (graph n from to) a b (HasOr a n b w₀ k0) (Queued n b w₀ k0) w₀ d h w k
 
 abbrev μ-loop : tie.MeasureT-loop
-μ-loop from to n w₀ ix b a k0 h₀ k₀ d₀ w h k d = ?
+μ-loop from to n w₀ ix b a k0 h₀ k₀ d₀ w h k d = n - h
 
--- src/distances.rt:14:5
 loop-holds : tie.Need-loop-holds Inv-loop μ-loop
-loop-holds c = ?
+loop-holds c = let s = c .before .before .before in rounds-none (graph (s .args .n) (s .args .from .now) (s .args .to .now)) (s .args .a) (s .args .ix) (s .args .b) (s .args .w .now) (s .args .k0) (s .pre)
 
--- src/distances.rt:15:56
 add-level : tie.Need-add-level Inv-loop μ-loop
-add-level c = ?
+add-level c = let s = c .before .before .before .before .before .before in let l = c .before .before .loop in omega (arith, c .before .loop-test .taken, s .pre .level .ready .small, l .inv .order .0, rounds-few (graph (s .args .n) (s .args .from .now) (s .args .to .now)) (s .args .a) (s .args .ix) (s .args .b) (s .args .w .now) (s .args .k0) (s .pre) (l .d) (l .h) (l .w) (l .k) (l .inv))
 
--- src/distances.rt:15:66
 add-level-2 : tie.Need-add-level-2 Inv-loop μ-loop
-add-level-2 c = ?
+add-level-2 c = let s = c .before .before .before .before .before .before in let l = c .before .before .loop in omega (arith, c .before .loop-test .taken, s .pre .level .ready .small, l .inv .order .0, rounds-few (graph (s .args .n) (s .args .from .now) (s .args .to .now)) (s .args .a) (s .args .ix) (s .args .b) (s .args .w .now) (s .args .k0) (s .pre) (l .d) (l .h) (l .w) (l .k) (l .inv))
 
--- src/distances.rt:15:13
 level-requires : tie.Need-level-requires Inv-loop μ-loop
-level-requires c κs = ?
+level-requires c κs = let s = c .before .before .before .before .before .before in let l = c .before .before .loop in rounds-ask (graph (s .args .n) (s .args .from .now) (s .args .to .now)) (s .args .a) (s .args .ix) (s .args .b) (s .args .w .now) (s .args .k0) (s .pre) (l .d) (l .h) (l .w) (l .k) (l .inv) (c .before .loop-test .taken)
 
--- src/distances.rt:18:9
 add-d : tie.Need-add-d Inv-loop μ-loop
-add-d c = ?
+add-d c = let s = c .before .before .before .before .before .before .before .before .before in let l = c .before .before .before .before .before .loop in omega (arith, c .before .before .before .before .loop-test .taken, s .pre .level .ready .small, l .inv .order .0, rounds-few (graph (s .args .n) (s .args .from .now) (s .args .to .now)) (s .args .a) (s .args .ix) (s .args .b) (s .args .w .now) (s .args .k0) (s .pre) (l .d) (l .h) (l .w) (l .k) (l .inv))
 
--- src/distances.rt:14:5
 loop-less : tie.Need-loop-less Inv-loop μ-loop
-loop-less c = ?
+loop-less c = let s = c .before .before .before .before .before .before .before .before .before in let l = c .before .before .before .before .before .loop in omega (arith, c .before .before .before .before .loop-test .taken, rounds-few (graph (s .args .n) (s .args .from .now) (s .args .to .now)) (s .args .a) (s .args .ix) (s .args .b) (s .args .w .now) (s .args .k0) (s .pre) (l .d) (l .h) (l .w) (l .k) (l .inv))
 
--- src/distances.rt:14:5
 loop-again : tie.Need-loop-again Inv-loop μ-loop
-loop-again c = ?
+loop-again c = let s = c .before .before .before .before .before .before .before .before .before in let l = c .before .before .before .before .before .loop in rounds-step (graph (s .args .n) (s .args .from .now) (s .args .to .now)) (s .args .a) (s .args .ix) (s .args .b) (s .args .w .now) (s .args .k0) (s .pre) (l .d) (l .h) (l .w) (l .k) (l .inv) (c .before .before .before .before .loop-test .taken) _ _ _ (c .before .before .level .ensures)
 
--- src/distances.rt:7:1
 same-length : tie.Need-same-length Inv-loop μ-loop
-same-length c = ?
+same-length c = c .before .loop .inv .kept .long
 
--- src/distances.rt:7:1
 returns : tie.Need-returns Inv-loop μ-loop
-returns c = ?
+returns c = let s = c .before .before .before .before .before in let l = c .before .loop in rounds-all (graph (s .args .n) (s .args .from .now) (s .args .to .now)) (s .args .a) (s .args .ix) (s .args .b) (s .args .w .now) (s .args .k0) (s .pre) (l .d) (l .h) (l .w) (l .k) (l .inv) (c .loop-test .left)
 
 pub rounds-spec : {M : Type 1} → statement M
 rounds-spec =
