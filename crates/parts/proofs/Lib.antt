@@ -1,0 +1,5 @@
+pub mod Naming
+pub mod Splitting
+pub mod Rings
+pub mod Sweeping
+pub mod Sharing

@@ -1,0 +1,64 @@
+use mathlib.Core.Path.{refl}
+use native.Mathlib.Omega.{arith}
+use borrow.Author.Needs.{needs}
+use Rattle.graph.specs.Graph.{graph}
+use Rattle.parts.proofs.Splitting.{first-ask, second-ask, queued, l-low, split-all}
+use Rattle.parts.proofs.split.split.Statement.{statement}
+use Rattle.parts.proofs.split.split.Tie as tie
+
+add-rx : tie.Need-add-rx
+add-rx c = search needs
+
+add-rx-2 : tie.Need-add-rx-2
+add-rx-2 c = search needs
+
+search-requires : tie.Need-search-requires
+search-requires c κs = let s = c .before .before .before .before in first-ask (graph (s .args .n) (s .args .sources .now) (s .args .targets .now)) (s .args .b) (s .args .p) (s .args .q) (s .args .f) (s .args .w .now) (s .pre) (λ e. refl)
+
+add-search : tie.Need-add-search
+add-search c = search needs
+
+add-search-2 : tie.Need-add-search-2
+add-search-2 c = search needs
+
+search-requires-2 : tie.Need-search-requires-2
+search-requires-2 c κs = let s = c .before .before .before .before .before .before .before .before in second-ask (graph (s .args .n) (s .args .sources .now) (s .args .targets .now)) (s .args .b) (s .args .p) (s .args .q) (s .args .f) (s .args .w .now) (s .pre) _ _ _ (c .before .before .before .search .ensures) (λ e. refl)
+
+add-lowest : tie.Need-add-lowest
+add-lowest c = search needs
+
+lowest-requires : tie.Need-lowest-requires
+lowest-requires c κs = let s = c .before .before .before .before .before .before .before .before .before .before .before .before in queued (graph (s .args .n) (s .args .sources .now) (s .args .targets .now)) (s .args .b) (s .args .p) (s .args .q) (s .args .f) (s .args .w .now) (s .pre) _ _ _ (c .before .before .before .before .before .before .before .search .ensures) _ _ _ (c .before .before .before .search2 .ensures)
+
+add-name : tie.Need-add-name
+add-name c = search needs
+
+cast-name : tie.Need-cast-name
+cast-name c = let s = c .before .before .before .before .before .before .before .before .before .before .before .before .before .before in omega (arith, l-low (graph (s .args .n) (s .args .sources .now) (s .args .targets .now)) (s .args .b) (s .args .p) (s .args .q) (s .args .f) (s .args .w .now) (s .pre) _ _ _ (c .before .before .before .before .before .before .before .before .before .search .ensures) _ _ _ (c .before .before .before .before .before .search2 .ensures) _ (c .before .lowest .ensures), s .pre .tables .small)
+
+name-requires : tie.Need-name-requires
+name-requires c κs = let s = c .before .before .before .before .before .before .before .before .before .before .before .before .before .before in record { queued = queued (graph (s .args .n) (s .args .sources .now) (s .args .targets .now)) (s .args .b) (s .args .p) (s .args .q) (s .args .f) (s .args .w .now) (s .pre) _ _ _ (c .before .before .before .before .before .before .before .before .before .search .ensures) _ _ _ (c .before .before .before .before .before .search2 .ensures); other = λ e. omega (arith, l-low (graph (s .args .n) (s .args .sources .now) (s .args .targets .now)) (s .args .b) (s .args .p) (s .args .q) (s .args .f) (s .args .w .now) (s .pre) _ _ _ (c .before .before .before .before .before .before .before .before .before .search .ensures) _ _ _ (c .before .before .before .before .before .search2 .ensures) _ (c .before .lowest .ensures), s .pre .part, s .pre .owned .below (s .args .p) (s .pre .start), s .pre .live, e) }
+
+same-length : tie.Need-same-length
+same-length c = search needs
+
+returns : tie.Need-returns
+returns c = let s = c .before .before .before .before .before .before .before .before .before .before .before .before .before .before .before .before .before in split-all (graph (s .args .n) (s .args .sources .now) (s .args .targets .now)) (s .args .b) (s .args .p) (s .args .q) (s .args .f) (s .args .w .now) (s .pre) _ _ _ (c .before .before .before .before .before .before .before .before .before .before .before .before .search .ensures) _ _ _ (c .before .before .before .before .before .before .before .before .search2 .ensures) _ (c .before .before .before .before .lowest .ensures) _ (c .before .before .name .ensures)
+
+pub split-spec : {M : Type 1} → statement M
+split-spec =
+    tie.close
+    (tie.spec
+    add-rx
+    add-rx-2
+    search-requires
+    add-search
+    add-search-2
+    search-requires-2
+    add-lowest
+    lowest-requires
+    add-name
+    cast-name
+    name-requires
+    same-length
+    returns)

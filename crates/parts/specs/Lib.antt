@@ -1,0 +1,5 @@
+pub mod State
+pub mod Split
+pub mod Chain
+pub mod Sweep
+pub mod Share

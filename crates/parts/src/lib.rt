@@ -1,0 +1,4 @@
+// Method 0 on one part: trimming, a sweep of pivots, and the new parts handed out.
+pub mod share;
+pub mod split;
+pub mod sweep;

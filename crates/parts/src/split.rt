@@ -1,0 +1,79 @@
+// One pivot: what it reaches and what reaches it within its part; what they share is a component and gets its label.
+ghost use mathlib.Core.Path.{_≡_};
+ghost use Prim.Native.Nat.{_<_};
+ghost use lib.ListN.{length};
+ghost use Rattle.graph.specs.Graph.{graph};
+ghost use Rattle.parts.specs.Split.{Lower, Lowest, Renamed, Queued, NameAsk, Named, SplitAsk, Split};
+
+// The lower of l and v, if v's colour y is d; else l.
+fn lower(l: usize, v: usize, y: u32, d: u32) -> usize
+    ensures { λ r. ⌜ Lower l v y d r ⌝ }
+{
+    if y != d {
+        return l;
+    }
+    if l <= v {
+        return l;
+    }
+    v
+}
+
+// The lowest vertex of the colour d among the first k of the queue, or n.
+fn lowest(n: usize, w: &[u32], b: usize, k: usize, d: u32) -> usize
+    requires { ⌜ Queued n b (now w) k ⌝ }
+    ensures { λ l. ⌜ Lowest n b (now (w .entry)) k d l ⌝ }
+{
+    let mut l = n;
+    let mut i = 0;
+    while i < k {
+        let v = w[b + n + i] as usize;
+        l = lower(l, v, w[b + v], d);
+        i += 1;
+    }
+    l
+}
+
+// What stands at x becomes l, if it is d.
+fn rename(w: &mut [u32], x: usize, d: u32, l: u32)
+    requires { ⌜ x < length (now w) ⌝ }
+    ensures { λ _. ⌜ Renamed (now (w .entry)) x d l (now (w .exit)) ⌝ }
+{
+    if w[x] != d {
+        return;
+    }
+    w[x] = l;
+}
+
+// What has the colour d among the first k of the queue gets the colour l.
+fn name(n: usize, w: &mut [u32], b: usize, k: usize, d: u32, l: u32)
+    requires { ⌜ NameAsk n b (now w) k d l ⌝ }
+    ensures { λ _. ⌜ Named n b (now (w .entry)) k d l (now (w .exit)) ⌝ }
+{
+    let mut i = 0;
+    while i < k {
+        let v = w[b + n + i] as usize;
+        rename(w, b + v, d, l);
+        i += 1;
+    }
+}
+
+// The part q is split at its vertex p: the rest of what p reaches becomes f, the rest of what reaches p f + 1.
+pub fn split(
+    sources: &[u32],
+    targets: &[u32],
+    n: usize,
+    w: &mut [u32],
+    b: usize,
+    p: usize,
+    q: u32,
+    f: u32,
+)
+    requires { ⌜ SplitAsk (graph n (now sources) (now targets)) b p q f (now w) ⌝ }
+    ensures { λ _. ⌜ Split (graph n (now (sources .entry)) (now (targets .entry))) b p q f (now (w .entry)) (now (w .exit)) ⌝ }
+{
+    let rx = n + 1 + sources.len();
+    paint::search(sources, targets, n, w, 0, b, p, q, f, q, f);
+    let s = paint::search(targets, sources, n, w, rx, b, p, q, f + 1, f, f + 2);
+    let l = lowest(n, w, b, s.k, f + 2);
+    name(n, w, b, s.k, f + 2, l as u32);
+}
