@@ -258,10 +258,13 @@ filling-none n mark ord z =
 
 pub leads-all : {n k : ℕ} {list : List ℕ} {mark ord : ℕ → ℕ} → Filling n k mark ord → ((v : ℕ) → v < n → mark v ≡ 1) → Leads n list k ord (least n) → Arranged n list ord
 leads-all {n} {k} {list} {mark} {ord} f all d =
-    record { low = λ i l. f .low i (omega (arith, full)); one = λ i j h m. f .one i j (omega (arith, full)) (omega (arith, full)); exact = exact }
+    record { low = λ i l. f .low i (omega (arith, full)); one = λ i j h m. f .one i j (omega (arith, full)) (omega (arith, full)); all = every-place; exact = exact }
   where
     full : k ≡ n
     full = filling-full f all
+
+    every-place : (v : ℕ) → v < n → (i : ℕ) × (i < n) × (ord i ≡ v)
+    every-place v l = let (i, q, e) = f .out v l (all v l) in (i, omega (arith, full), e)
 
     exact : (p : ℕ → Bool) (v : ℕ) → v < n → T (p v) → ord (least n (λ i. p (ord i))) ≡ listed n p list
     exact p v l t =

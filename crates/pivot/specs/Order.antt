@@ -12,6 +12,7 @@ use Rattle.graph.specs.Pivot.{listed}
 pub record Arranged (n : ℕ) (list : List ℕ) (ord : ℕ → ℕ) : Type 0 where
   pub low : (i : ℕ) → i < n → ord i < n
   pub one : (i j : ℕ) → i < n → j < n → ord i ≡ ord j → i ≡ j
+  pub all : (v : ℕ) → v < n → (i : ℕ) × (i < n) × (ord i ≡ v)
   pub exact : (p : ℕ → Bool) (v : ℕ) → v < n → T (p v) → ord (least n (λ i. p (ord i))) ≡ listed n p list
 
 -- where the order stands in the working numbers

@@ -24,6 +24,13 @@ pub fn next(state: u32) -> u32
     std::num::wrapping_add_u32(wrapping_mul_u32(1664525, state), 1013904223)
 }
 
+// The chooser as it stands.
+pub fn copy(c: &mut Chooser) -> Chooser
+    ensures { λ r. ⌜ (r ≡ now (c .entry)) × (now (c .exit) ≡ now (c .entry)) ⌝ }
+{
+    *c
+}
+
 // One draw: the chooser is advanced where it stands.
 pub fn draw(c: &mut Chooser) -> u32
     ensures { λ r. ⌜ Drawn r (now (c .entry)) (now (c .exit)) ⌝ }

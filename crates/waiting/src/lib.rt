@@ -11,18 +11,23 @@ pub struct Part {
     pub slicing: u32,
 }
 
-// The record at place i.
-pub fn at(parts: &[Part], i: usize) -> Part
-    requires { ⌜ i < length (now parts) ⌝ }
-    ensures { λ r. ⌜ r ≡ getD (now (parts .entry)) i none ⌝ }
-{
-    parts[i]
-}
-
 // Puts a record at place i.
 pub fn put(parts: &mut [Part], i: usize, p: Part)
     requires { ⌜ i < length (now parts) ⌝ }
     ensures { λ _. ⌜ now (parts .exit) ≡ set (now (parts .entry)) i p ⌝ }
 {
     parts[i] = p;
+}
+
+// Takes the record at place i out, and leaves zeros there.
+pub fn take(parts: &mut [Part], i: usize) -> Part
+    requires { ⌜ i < length (now parts) ⌝ }
+    ensures { λ r. ⌜ (r ≡ getD (now (parts .entry)) i none) × (now (parts .exit) ≡ set (now (parts .entry)) i none) ⌝ }
+{
+    let p = parts[i];
+    parts[i] = Part {
+        first: 0,
+        slicing: 0,
+    };
+    p
 }
