@@ -41,6 +41,7 @@ use Rattle.waiting.specs.declared.Part.{Part}
 use Rattle.waiting.specs.Records.{none}
 use Rattle.waiting.proofs.Part as T
 use Rattle.waiting.proofs.Part.Laws as T′
+use Rattle.waiting.proofs.take.Key.{name as #waiting·take}
 use Rattle.waiting.proofs.take as f
 use Rattle.waiting.proofs.take.Statement as stated
 use Rattle.waiting.proofs.take.Code as code

@@ -34,6 +34,7 @@ use denote.Triple.Walked.{says, Stays, stay-ref, walkOf, goes-ref, Walks, ends-a
 use Rattle.pivot.specs.declared.chooser.Chooser.{Chooser}
 use Rattle.pivot.proofs.chooser.Chooser as T
 use Rattle.pivot.proofs.chooser.Chooser.Laws as T′
+use Rattle.pivot.proofs.chooser.copy.Key.{name as #pivot·chooser·copy}
 use Rattle.pivot.proofs.chooser.copy as f
 use Rattle.pivot.proofs.chooser.copy.Statement as stated
 use Rattle.pivot.proofs.chooser.copy.Code as code
