@@ -15,7 +15,7 @@ use Rattle.lines.specs.declared.numbers.Number.the-variants.{Is, Faulty 
 use Rattle.lines.specs.Pieces.{split}
 use Rattle.lines.specs.Numbers.{Content, faulty, numbers, longestLine, space, numberOf, filled, words, andThen, numbersOf, content}
 use Rattle.lines.specs.Answers.{foundOf, shown, ahead, wordContent}
-use Rattle.lines.proofs.Split.{Known}
+use Rattle.lines.proofs.Split.{Known, piece-left}
 
 -- one more number found, by how many there are
 module _ (f : Found) (v : ℕ) where
@@ -142,7 +142,7 @@ module _ (line : List ℕ) (found : Found) (at : ℕ) (short : length line ≤ l
 
   module _ (a e n : ℕ) (k : Known space line at a e n) (w : List ℕ) (same : w ≡ take (e - a) (drop a line)) (row : Row) (told : (vs : List ℕ) → found ≡ foundOf vs → row ≡ shown (ahead vs (wordContent w))) where
     pieces : split space (drop at line) ≡ w ∷ split space (drop n line)
-    pieces = k .pieces ∙ ap (λ (x : List ℕ). x ∷ split space (drop n line)) (sym same)
+    pieces = piece-left space line at a e n k w same
 
     pub upto-stop : row ≡ Faulty → Faulty ≡ shown (content line)
     unfolding content shown ahead
@@ -172,3 +172,19 @@ module _ (line : List ℕ) (found : Found) (at : ℕ) (short : length line ≤ l
 pub row-long : (line : List ℕ) → longestLine < length line → Faulty ≡ shown (content line)
 unfolding content shown
 row-long line h = rw (lt-ltb _ _ h)
+
+-- what a line's answer says of the line
+pub record Held (c : Content) (f : Found) : Type 0 where
+  pub vs : List ℕ
+  pub is : c ≡ numbers vs
+  pub held : f ≡ foundOf vs
+
+pub row-held : (c : Content) (f : Found) → shown c ≡ Numbers f → Held c f
+unfolding shown
+row-held faulty f e = let z : _≡_ {A = ℕ} 0 1 = cc in absurd (omega arith)
+row-held (numbers vs) f e = record { vs = vs; is = refl; held = cc }
+
+pub row-faulty : (c : Content) → shown c ≡ Faulty → c ≡ faulty
+unfolding shown
+row-faulty faulty e = refl
+row-faulty (numbers vs) e = let z : _≡_ {A = ℕ} 0 1 = cc in absurd (omega arith)

@@ -121,3 +121,7 @@ module _ (stop : ℕ) (s : List ℕ) (at : ℕ) where
 
   pub piece-none : pieceAt stop s at ≡ None → split stop (drop at s) ≡ []
   piece-none q = none′ (ltb at (length s)) stop s at refl q
+
+-- the same of a list w that has the piece's bytes
+pub piece-left : (stop : ℕ) (s : List ℕ) (at a e n : ℕ) → Known stop s at a e n → (w : List ℕ) → w ≡ take (e - a) (drop a s) → split stop (drop at s) ≡ w ∷ split stop (drop n s)
+piece-left stop s at a e n k w is = k .pieces ∙ ap (λ (x : List ℕ). x ∷ split stop (drop n s)) (sym is)

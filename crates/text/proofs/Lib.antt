@@ -1,0 +1,4 @@
+pub mod Head
+pub mod Edges
+pub mod Reading
+pub mod Unique

@@ -1,0 +1,3 @@
+pub mod Market
+pub mod Steps
+pub mod Promise
