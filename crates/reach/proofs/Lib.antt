@@ -1,0 +1,6 @@
+pub mod Unique
+pub mod Between
+pub mod Starts
+pub mod Result
+pub mod Outcome
+pub mod Computed

@@ -1,0 +1,101 @@
+-- From an accepted call to the promise.
+use Prim.Native.Nat.{ℕ, _≤_, _+_, _*_}
+use native.Mathlib.Omega.{arith}
+use native.Mathlib.Nat.{suc-ne-zero}
+use mathlib.Core.Path.{_≡_, refl, sym, _∙_}
+use mathlib.Core.Bool.{Bool, true, false}
+use mathlib.Core.List.{List}
+use lib.ListN.{length}
+use lib.Dec.{eqb}
+use borrow.Author.Tests.{ltb-false, eqb-true, not-false}
+use Rattle.graph.specs.Limits.{wordsOf, numbersNeeded, wordsNeeded}
+use Rattle.graph.specs.Numbers.{tally, many}
+use Rattle.graph.specs.Graph.{graph, edges}
+use Rattle.graph.specs.Sets.{bit, members}
+use Rattle.graph.specs.Memory.{Zeroed, Framed}
+use Rattle.graph.proofs.Refusals.{or-none, or-left-none, given-none, Passed, table-passed, passed-valid}
+use Rattle.graph.proofs.Chains.{valid-rev}
+use Rattle.sets.proofs.Sizes.{size-below, size-many}
+use Rattle.reach.specs.Search.{Call, ill-sized, searchRefusal, tableOf, Finished}
+use Rattle.reach.specs.Steps.{RunAsk, Found}
+
+-- a set that is not ill-sized
+sized : (n : ℕ) (ws : List ℕ) → ill-sized n ws ≡ false → length ws ≡ wordsOf n
+sized n ws e = eqb-true (length ws) (wordsOf n) (not-false (eqb (length ws) (wordsOf n)) e)
+
+-- what a call has that is not refused
+pub record Accepted (c : Call) : Type 0 where
+  pub table : Passed (c .n) (c .sources) (c .targets)
+  pub starts : length (c .starts) ≡ wordsOf (c .n)
+  pub permitted : length (c .permitted) ≡ wordsOf (c .n)
+  pub reached : length (c .reached) ≡ wordsOf (c .n)
+  pub numbers : numbersNeeded (c .n) (length (c .sources)) ≤ length (c .numbers)
+  pub words : wordsNeeded (c .n) ≤ length (c .words)
+
+module _ (c : Call) (e : searchRefusal c ≡ 0) where
+  pub accepted : Accepted c
+  unfolding searchRefusal
+  accepted =
+      let (e1, r1) = or-none _ _ e in
+      let (e2, e3) = or-none _ _ r1 in
+      let (s1, r) = or-left-none _ _ (given-none 5 _ (suc-ne-zero 4) e2) in
+      let (s, p) = or-left-none _ _ s1 in
+      let (m, w) = or-left-none _ _ (given-none 6 _ (suc-ne-zero 5) e3) in
+      record {
+        table = table-passed (c .n) (c .sources) (c .targets) e1;
+        starts = sized (c .n) (c .starts) s;
+        permitted = sized (c .n) (c .permitted) p;
+        reached = sized (c .n) (c .reached) r;
+        numbers = ltb-false _ _ m;
+        words = ltb-false _ _ w;
+      }
+
+  pub run-ask : RunAsk (graph (c .n) (c .sources) (c .targets)) (c .starts) (c .permitted) (c .numbers) (c .reached)
+  run-ask = let a = accepted in record {
+    valid = passed-valid (c .n) (c .sources) (c .targets) (a .table);
+    small = a .table .small;
+    few = a .table .few;
+    room = omega (arith, a .numbers);
+    sets = record { starts-long = a .starts; permitted-long = a .permitted; set-long = a .reached };
+  }
+
+-- backward, the columns change places
+pub turned-ask : {n : ℕ} {sources targets starts permitted w r : List ℕ} → RunAsk (graph n sources targets) starts permitted w r → RunAsk (graph n targets sources) starts permitted w r
+turned-ask a = record {
+  valid = valid-rev (a .valid);
+  small = a .small;
+  few = omega (arith, a .few, a .valid .same);
+  room = omega (arith, a .room, a .valid .same);
+  sets = a .sets;
+}
+
+module _ (c : Call) (e : searchRefusal c ≡ 0) (w₁ r w ws : List ℕ) (k seen : ℕ) where
+  vertices : length r ≡ length (c .reached) → ((v : ℕ) → c .n ≤ v → bit r v ≡ 0) → k ≡ tally (bit r) (length r * 64) → k ≡ many (members (c .n) r) (c .n)
+  vertices l z q = q ∙ size-below r (c .n) (length r * 64) (omega (arith, accepted c e .reached)) z ∙ size-many r (c .n)
+
+  zeroed : (m : ℕ) → m ≡ length (c .sources) → Framed 0 (3 * c .n + 1 + m) (c .numbers) w₁ → Zeroed (numbersNeeded (c .n) (length (c .sources))) w₁ w → Zeroed (numbersNeeded (c .n) (length (c .sources))) (c .numbers) w
+  zeroed m q f z = record { long = z .long ∙ f .long; front = z .front; rest = λ j l. z .rest j l ∙ f .high j (omega arith) }
+
+  -- the search found the set, the set was measured, and the working memory zeroed
+  pub finished : (backward : Bool) → Found (tableOf c backward) (c .starts) (c .permitted) (c .numbers) (c .reached) w₁ r seen → k ≡ tally (bit r) (length r * 64)
+      → Zeroed (numbersNeeded (c .n) (length (c .sources))) w₁ w → Zeroed (wordsNeeded (c .n)) (c .words) ws → Finished c backward r w ws k seen
+  finished true f q x y = record {
+    long = f .long;
+    sound = f .sound;
+    complete = f .complete;
+    above = f .above;
+    vertices = vertices (f .long) (f .above) q;
+    edges = f .count;
+    numbers = zeroed (length (c .targets)) (sym (accepted c e .table .even)) (f .frame) x;
+    words = y;
+  }
+  finished false f q x y = record {
+    long = f .long;
+    sound = f .sound;
+    complete = f .complete;
+    above = f .above;
+    vertices = vertices (f .long) (f .above) q;
+    edges = f .count;
+    numbers = zeroed (length (c .sources)) refl (f .frame) x;
+    words = y;
+  }

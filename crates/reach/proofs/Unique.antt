@@ -1,0 +1,47 @@
+-- Two outcomes that the search's promise allows are equal: the answer and all memory lent.
+use Prim.Native.Nat.{ℕ}
+use native.Mathlib.Omega.{arith}
+use native.Mathlib.Decide.{ℕ-discrete}
+use mathlib.Core.Path.{_≡_, sym, ap, ap₂, _∙_}
+use mathlib.Core.Bool.{Bool}
+use mathlib.Core.List.{List}
+use Rattle.graph.specs.Numbers.{many}
+use Rattle.graph.specs.Sets.{bit, members}
+use Rattle.graph.specs.Search.{looked}
+use Rattle.graph.proofs.Memory.{zeroed-one}
+use Rattle.sets.proofs.Store.{bit-lt}
+use Rattle.sets.proofs.Unique.{Words, set-one}
+use Rattle.reach.specs.Search.{Call, tableOf, Finished, Promise}
+use Rattle.reach.specs.declared.Answer.{Answer}
+use Rattle.reach.specs.declared.Answer.the-variants.{Done, Refused}
+
+bits-one : {c : Call} {b : Bool} {r w ws r' w' ws' : List ℕ} {k e k' e' : ℕ} → Finished c b r w ws k e → Finished c b r' w' ws' k' e' → (v : ℕ) → bit r v ≡ bit r' v
+bits-one {c} {b} {r} {w} {ws} {r'} p q v = elim (ℕ-discrete (bit r v) 1) as (λ _. bit r v ≡ bit r' v) [
+  | yes h ↦ h ∙ sym (q .complete v (p .sound v h))
+  | no h ↦ elim (ℕ-discrete (bit r' v) 1) as (λ _. bit r v ≡ bit r' v) [
+    | yes t ↦ absurd (h (p .complete v (q .sound v t)))
+    | no t ↦ omega (arith, bit-lt r v, bit-lt r' v)
+  ]
+]
+
+gives-one : {c : Call} {b : Bool} {r w ws r' w' ws' : List ℕ} {k e k' e' : ℕ} → Words r → Words r' → Finished c b r w ws k e → Finished c b r' w' ws' k' e'
+    → (k ≡ k') × (e ≡ e') × (r ≡ r') × (w ≡ w') × (ws ≡ ws')
+gives-one {c} {b} {r} {w} {ws} {r'} f f' p q =
+    let s : r ≡ r' = set-one r r' f f' (p .long ∙ sym (q .long)) (bits-one p q) in (
+      p .vertices ∙ ap (λ (x : List ℕ). many (members (c .n) x) (c .n)) s ∙ sym (q .vertices),
+      p .edges ∙ ap (λ (x : List ℕ). looked (tableOf c b) (members (c .n) x)) s ∙ sym (q .edges),
+      s,
+      zeroed-one (p .numbers) (q .numbers),
+      zeroed-one (p .words) (q .words),
+    )
+
+pub search-one : (c : Call) (b : Bool) (r w ws r' w' ws' : List ℕ) (a a' : Answer) → Words r → Words r' → Promise c b r w ws a → Promise c b r' w' ws' a'
+    → (a ≡ a') × (r ≡ r') × (w ≡ w') × (ws ≡ ws')
+search-one c b r w ws r' w' ws' (Done k e) (Done k' e') f f' p q =
+    let (x, y, s, t, u) = gives-one f f' (p .gives) (q .gives) in (ap₂ Done x y, s, t, u)
+search-one c b r w ws r' w' ws' (Done k e) (Refused j) f f' p q = absurd (q .gives .refused (q .refusal ∙ sym (p .refusal)))
+search-one c b r w ws r' w' ws' (Refused j) (Done k e) f f' p q = absurd (p .gives .refused (p .refusal ∙ sym (q .refusal)))
+search-one c b r w ws r' w' ws' (Refused j) (Refused j') f f' p q =
+    let x = p .gives in
+    let y = q .gives in
+    (ap Refused (p .refusal ∙ sym (q .refusal)), x .reached ∙ sym (y .reached), x .numbers ∙ sym (y .numbers), x .words ∙ sym (y .words))

@@ -1,0 +1,97 @@
+// The public search: which permitted vertices are reached from permitted starts by chains that stay permitted.
+ghost use mathlib.Core.Path.{_≡_};
+ghost use Rattle.reach.specs.Search.{searchRefusal, Promise};
+
+mod steps;
+
+use graph::limits;
+use graph::table;
+use index::memory;
+
+// What a search answers: the number of vertices reached and of edges looked at, or the number by which it refuses.
+pub enum Answer {
+    Done { vertices: usize, edges: usize },
+    Refused(u32),
+}
+
+// The first of 1 to 6 that applies, or 0.
+fn refusal(
+    n: usize,
+    sources: &[u32],
+    targets: &[u32],
+    starts: &[u64],
+    permitted: &[u64],
+    reached: &[u64],
+    numbers: &[u32],
+    words: &[u64],
+) -> u32
+    ensures { λ k. ⌜ k ≡ searchRefusal (record { n = n; sources = now (sources .entry); targets = now (targets .entry); starts = now (starts .entry); permitted = now (permitted .entry); reached = now (reached .entry); numbers = now (numbers .entry); words = now (words .entry) }) ⌝ }
+{
+    let fault = table::check(n, sources, targets);
+    if fault != 0 {
+        return fault;
+    }
+    let size = (n + 63) / 64;
+    if starts.len() != size {
+        return limits::WRONG_LENGTH;
+    }
+    if permitted.len() != size {
+        return limits::WRONG_LENGTH;
+    }
+    if reached.len() != size {
+        return limits::WRONG_LENGTH;
+    }
+    if numbers.len() < 12 * n + 2 * sources.len() + 16 {
+        return limits::MEMORY_SHORT;
+    }
+    if words.len() < 6 * size {
+        return limits::MEMORY_SHORT;
+    }
+    0
+}
+
+// The set of permitted vertices reached from permitted starts by chains that stay permitted, its size, and the number of edges that leave it (backward: enter it).
+pub fn search(
+    n: usize,
+    sources: &[u32],
+    targets: &[u32],
+    starts: &[u64],
+    permitted: &[u64],
+    backward: bool,
+    reached: &mut [u64],
+    numbers: &mut [u32],
+    words: &mut [u64],
+) -> Answer
+    ensures { λ a. ⌜ Promise (record { n = n; sources = now (sources .entry); targets = now (targets .entry); starts = now (starts .entry); permitted = now (permitted .entry); reached = now (reached .entry); numbers = now (numbers .entry); words = now (words .entry) }) backward (now (reached .exit)) (now (numbers .exit)) (now (words .exit)) a ⌝ }
+{
+    let fault = refusal(
+        n,
+        sources,
+        targets,
+        starts,
+        permitted,
+        reached,
+        numbers,
+        words,
+    );
+    if fault != 0 {
+        return Answer::Refused(fault);
+    }
+    let edges = steps::directed(
+        n,
+        sources,
+        targets,
+        starts,
+        permitted,
+        backward,
+        numbers,
+        reached,
+    );
+    let vertices = sets::size(reached);
+    memory::zero_numbers(numbers, 12 * n + 2 * sources.len() + 16);
+    memory::zero_words(words, 6 * ((n + 63) / 64));
+    Answer::Done {
+        vertices: vertices,
+        edges: edges,
+    }
+}

@@ -1,0 +1,109 @@
+// A search in one direction: sets become colours, the search core paints them, and what was painted becomes a set.
+ghost use Rattle.graph.specs.Graph.{graph, turned};
+ghost use Rattle.reach.specs.Steps.{ColourAsk, Coloured, ChooseAsk, Chosen, BeginOneAsk, BegunOne, BeginAsk, BegunBelow, GatherAsk, Gathered, RunAsk, Found};
+use index::build;
+use index::memory;
+
+// Each vertex is coloured 1 if it is permitted, 0 if not; the colours stand in w from b on.
+fn colour(n: usize, permitted: &[u64], w: &mut [u32], b: usize)
+    requires { ⌜ ColourAsk n b (now permitted) (now w) ⌝ }
+    ensures { λ _. ⌜ Coloured n b (now (permitted .entry)) (now (w .entry)) (now (w .exit)) ⌝ }
+{
+    let mut v = 0;
+    while v < n {
+        w[b + v] = sets::has(permitted, v) as u32;
+        v += 1;
+    }
+}
+
+// The permitted starts.
+fn choose(n: usize, starts: &[u64], permitted: &[u64], r: &mut [u64])
+    requires { ⌜ ChooseAsk n (now starts) (now permitted) (now r) ⌝ }
+    ensures { λ _. ⌜ Chosen n (now (starts .entry)) (now (permitted .entry)) (now (r .entry)) (now (r .exit)) ⌝ }
+{
+    memory::zero_words(r, starts.len());
+    sets::join(r, starts);
+    sets::meet(r, permitted);
+    sets::clip(r, n);
+}
+
+// Vertex x is painted and queued if it is in the set. The queue's new length.
+fn begin_one(n: usize, r: &[u64], w: &mut [u32], b: usize, x: usize, k: usize) -> usize
+    requires { ⌜ BeginOneAsk n b x (now r) (now w) k ⌝ }
+    ensures { λ k'. ⌜ BegunOne n b x (now (r .entry)) (now (w .entry)) k (now (w .exit)) k' ⌝ }
+{
+    if sets::has(r, x) == 0 {
+        return k;
+    }
+    paint::visit(n, w, b, x, 1, 2, 1, 2, k)
+}
+
+// The members of the set are painted and queued. The queue's length.
+fn begin(n: usize, r: &[u64], w: &mut [u32], b: usize) -> usize
+    requires { ⌜ BeginAsk n b (now r) (now w) ⌝ }
+    ensures { λ k. ⌜ BegunBelow n n b (now (r .entry)) (now (w .entry)) (now (w .exit)) k ⌝ }
+{
+    let mut x = 0;
+    let mut k = 0;
+    while x < n {
+        k = begin_one(n, r, w, b, x, k);
+        x += 1;
+    }
+    k
+}
+
+// The first k of the queue, which begins at q, are added to the set.
+fn gather(w: &[u32], q: usize, k: usize, r: &mut [u64])
+    requires { ⌜ GatherAsk q k (now w) (now r) ⌝ }
+    ensures { λ _. ⌜ Gathered q k (now (w .entry)) (now (r .entry)) (now (r .exit)) ⌝ }
+{
+    let mut i = 0;
+    while i < k {
+        let v = w[q + i] as usize;
+        sets::add(r, v);
+        i += 1;
+    }
+}
+
+// The search along the edges from `from` to `to`: r becomes the set of what is reached. The number of edges looked at.
+fn run(
+    from: &[u32],
+    to: &[u32],
+    n: usize,
+    starts: &[u64],
+    permitted: &[u64],
+    w: &mut [u32],
+    r: &mut [u64],
+) -> usize
+    requires { ⌜ RunAsk (graph n (now from) (now to)) (now starts) (now permitted) (now w) (now r) ⌝ }
+    ensures { λ e. ⌜ Found (graph n (now (from .entry)) (now (to .entry))) (now (starts .entry)) (now (permitted .entry)) (now (w .entry)) (now (r .entry)) (now (w .exit)) (now (r .exit)) e ⌝ }
+{
+    let b = n + 1 + from.len();
+    build::one(from, n, w);
+    colour(n, permitted, w, b);
+    choose(n, starts, permitted, r);
+    let k = begin(n, r, w, b);
+    let s = paint::spread(from, to, n, w, 0, b, 1, 2, 1, 2, k);
+    gather(w, b + n, s.k, r);
+    s.edges
+}
+
+// The search in the direction asked for: backward, the columns change places.
+pub fn directed(
+    n: usize,
+    sources: &[u32],
+    targets: &[u32],
+    starts: &[u64],
+    permitted: &[u64],
+    backward: bool,
+    w: &mut [u32],
+    r: &mut [u64],
+) -> usize
+    requires { ⌜ RunAsk (graph n (now sources) (now targets)) (now starts) (now permitted) (now w) (now r) ⌝ }
+    ensures { λ e. ⌜ Found (turned backward (graph n (now (sources .entry)) (now (targets .entry)))) (now (starts .entry)) (now (permitted .entry)) (now (w .entry)) (now (r .entry)) (now (w .exit)) (now (r .exit)) e ⌝ }
+{
+    if backward {
+        return run(targets, sources, n, starts, permitted, w, r);
+    }
+    run(sources, targets, n, starts, permitted, w, r)
+}
