@@ -18,37 +18,65 @@ same-length-3 : tie.Need-same-length-3
 same-length-3 c = search needs
 
 returns : tie.Need-returns
-returns c = record { refusal = c .before .refusal .ensures; gives = record { refused = c .if1 .taken; reached = refl; numbers = refl; words = refl } }
+returns c =
+    let at-refusal = c .before in
+    record { refusal = at-refusal .refusal .ensures; gives = record { refused = c .if1 .taken; reached = refl; numbers = refl; words = refl } }
 
 directed-requires : tie.Need-directed-requires
-directed-requires c κs = run-ask _ (sym (c .before .before .before .refusal .ensures) ∙ c .before .before .if1 .left)
+directed-requires c κs =
+    let at-if1 = c .before .before in
+    let at-refusal = at-if1 .before in
+    run-ask _ (sym (at-refusal .refusal .ensures) ∙ at-if1 .if1 .left)
 
 size-requires : tie.Need-size-requires
-size-requires c κs = omega (arith, accepted _ (sym (c .before .before .before .before .before .before .before .before .before .refusal .ensures) ∙ c .before .before .before .before .before .before .before .before .if1 .left) .reached, accepted _ (sym (c .before .before .before .before .before .before .before .before .before .refusal .ensures) ∙ c .before .before .before .before .before .before .before .before .if1 .left) .table .small, c .before .before .before .before .before .directed .ensures .long)
+size-requires c κs =
+    let at-directed = c .before .before .before .before .before in
+    let at-if1 = at-directed .before .before .before in
+    let at-refusal = at-if1 .before in
+    omega (arith, accepted _ (sym (at-refusal .refusal .ensures) ∙ at-if1 .if1 .left) .reached, accepted _ (sym (at-refusal .refusal .ensures) ∙ at-if1 .if1 .left) .table .small, at-directed .directed .ensures .long)
 
 mul-zero-numbers : tie.Need-mul-zero-numbers
-mul-zero-numbers c = omega (arith, accepted _ (sym (c .before .before .before .before .before .before .before .before .before .before .before .refusal .ensures) ∙ c .before .before .before .before .before .before .before .before .before .before .if1 .left) .table)
+mul-zero-numbers c =
+    let at-if1 = c .before .before .before .before .before .before .before .before .before .before in
+    let at-refusal = at-if1 .before in
+    omega (arith, accepted _ (sym (at-refusal .refusal .ensures) ∙ at-if1 .if1 .left) .table)
 
 mul-zero-numbers-2 : tie.Need-mul-zero-numbers-2
 mul-zero-numbers-2 c = search needs
 
 add-zero-numbers : tie.Need-add-zero-numbers
-add-zero-numbers c = omega (arith, accepted _ (sym (c .before .before .before .before .before .before .before .before .before .before .before .refusal .ensures) ∙ c .before .before .before .before .before .before .before .before .before .before .if1 .left) .table)
+add-zero-numbers c =
+    let at-if1 = c .before .before .before .before .before .before .before .before .before .before in
+    let at-refusal = at-if1 .before in
+    omega (arith, accepted _ (sym (at-refusal .refusal .ensures) ∙ at-if1 .if1 .left) .table)
 
 add-zero-numbers-2 : tie.Need-add-zero-numbers-2
-add-zero-numbers-2 c = omega (arith, accepted _ (sym (c .before .before .before .before .before .before .before .before .before .before .before .refusal .ensures) ∙ c .before .before .before .before .before .before .before .before .before .before .if1 .left) .table)
+add-zero-numbers-2 c =
+    let at-if1 = c .before .before .before .before .before .before .before .before .before .before in
+    let at-refusal = at-if1 .before in
+    omega (arith, accepted _ (sym (at-refusal .refusal .ensures) ∙ at-if1 .if1 .left) .table)
 
 zero-numbers-requires : tie.Need-zero-numbers-requires
-zero-numbers-requires c κs = omega (arith, accepted _ (sym (c .before .before .before .before .before .before .before .before .before .before .before .refusal .ensures) ∙ c .before .before .before .before .before .before .before .before .before .before .if1 .left) .numbers, c .before .before .before .before .before .before .before .directed .ensures .frame .long)
+zero-numbers-requires c κs =
+    let at-directed = c .before .before .before .before .before .before .before in
+    let at-if1 = at-directed .before .before .before in
+    let at-refusal = at-if1 .before in
+    omega (arith, accepted _ (sym (at-refusal .refusal .ensures) ∙ at-if1 .if1 .left) .numbers, at-directed .directed .ensures .frame .long)
 
 add-zero-words : tie.Need-add-zero-words
-add-zero-words c = omega (arith, accepted _ (sym (c .before .before .before .before .before .before .before .before .before .before .before .before .before .before .before .refusal .ensures) ∙ c .before .before .before .before .before .before .before .before .before .before .before .before .before .before .if1 .left) .table)
+add-zero-words c =
+    let at-if1 = c .before .before .before .before .before .before .before .before .before .before .before .before .before .before in
+    let at-refusal = at-if1 .before in
+    omega (arith, accepted _ (sym (at-refusal .refusal .ensures) ∙ at-if1 .if1 .left) .table)
 
 mul-zero-words : tie.Need-mul-zero-words
 mul-zero-words c = search needs
 
 zero-words-requires : tie.Need-zero-words-requires
-zero-words-requires c κs = omega (arith, accepted _ (sym (c .before .before .before .before .before .before .before .before .before .before .before .before .before .before .before .refusal .ensures) ∙ c .before .before .before .before .before .before .before .before .before .before .before .before .before .before .if1 .left) .words)
+zero-words-requires c κs =
+    let at-if1 = c .before .before .before .before .before .before .before .before .before .before .before .before .before .before in
+    let at-refusal = at-if1 .before in
+    omega (arith, accepted _ (sym (at-refusal .refusal .ensures) ∙ at-if1 .if1 .left) .words)
 
 same-length-4 : tie.Need-same-length-4
 same-length-4 c = search needs
@@ -60,7 +88,14 @@ same-length-6 : tie.Need-same-length-6
 same-length-6 c = search needs
 
 returns-2 : tie.Need-returns-2
-returns-2 c = record { refusal = sym (c .before .before .before .before .before .before .before .before .before .before .before .before .before .before .before .before .before .if1 .left) ∙ c .before .before .before .before .before .before .before .before .before .before .before .before .before .before .before .before .before .before .refusal .ensures; gives = finished _ (sym (c .before .before .before .before .before .before .before .before .before .before .before .before .before .before .before .before .before .before .refusal .ensures) ∙ c .before .before .before .before .before .before .before .before .before .before .before .before .before .before .before .before .before .if1 .left) _ _ _ _ _ _ _ (c .before .before .before .before .before .before .before .before .before .before .before .before .before .before .directed .ensures) (c .before .before .before .before .before .before .before .before .size .ensures) (c .before .before .before .before .before .before .zero-numbers .ensures) (c .before .before .zero-words .ensures) }
+returns-2 c =
+    let at-zero-words = c .before .before in
+    let at-zero-numbers = at-zero-words .before .before .before .before in
+    let at-size = at-zero-numbers .before .before in
+    let at-directed = at-size .before .before .before .before .before .before in
+    let at-if1 = at-directed .before .before .before in
+    let at-refusal = at-if1 .before in
+    record { refusal = sym (at-if1 .if1 .left) ∙ at-refusal .refusal .ensures; gives = finished _ (sym (at-refusal .refusal .ensures) ∙ at-if1 .if1 .left) _ _ _ _ _ _ _ (at-directed .directed .ensures) (at-size .size .ensures) (at-zero-numbers .zero-numbers .ensures) (at-zero-words .zero-words .ensures) }
 
 pub search-spec : {M : Type 1} → statement M
 search-spec =

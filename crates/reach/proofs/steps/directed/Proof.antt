@@ -4,7 +4,9 @@ use Rattle.reach.proofs.steps.directed.Statement.{statement}
 use Rattle.reach.proofs.steps.directed.Tie as tie
 
 run-requires : tie.Need-run-requires
-run-requires c κs = turned-ask (c .before .before .before .before .before .before .before .before .before .pre)
+run-requires c κs =
+    let begins = c .before .before .before .before .before .before .before .before .before in
+    turned-ask (begins .pre)
 
 same-length : tie.Need-same-length
 same-length c = search needs
@@ -13,7 +15,10 @@ same-length-2 : tie.Need-same-length-2
 same-length-2 c = search needs
 
 returns : tie.Need-returns
-returns c = rw (c .before .before .before .before .before .before .before .if1 .taken) (c .before .before .before .before .run .ensures)
+returns c =
+    let at-run = c .before .before .before .before in
+    let at-if1 = at-run .before .before .before in
+    rw (at-if1 .if1 .taken) (at-run .run .ensures)
 
 run-requires-2 : tie.Need-run-requires-2
 run-requires-2 c κs = search needs
@@ -25,7 +30,10 @@ same-length-4 : tie.Need-same-length-4
 same-length-4 c = search needs
 
 returns-2 : tie.Need-returns-2
-returns-2 c = rw (c .before .before .before .before .before .before .before .if1 .left) (c .before .before .before .before .run2 .ensures)
+returns-2 c =
+    let at-run2 = c .before .before .before .before in
+    let at-if1 = at-run2 .before .before .before in
+    rw (at-if1 .if1 .left) (at-run2 .run2 .ensures)
 
 pub directed-spec : {M : Type 1} → statement M
 directed-spec =

@@ -1,4 +1,5 @@
 use native.Mathlib.Omega.{arith}
+use mathlib.Core.Path.{_∙_}
 use borrow.Author.Needs.{needs}
 use Rattle.reach.proofs.Result.{spread-ask, gather-ask, found}
 use Rattle.reach.proofs.steps.run.Statement.{statement}
@@ -23,22 +24,50 @@ begin-requires : tie.Need-begin-requires
 begin-requires c κs = search needs
 
 spread-requires : tie.Need-spread-requires
-spread-requires c κs = spread-ask _ _ _ _ _ _ _ (c .before .before .before .before .before .before .before .before .before .before .before .before .before .before .before .before .before .before .before .before .before .before .before .before .pre) _ (c .before .before .before .before .before .before .before .before .before .before .before .before .before .before .before .before .one .ensures) _ _ (c .before .before .before .before .before .before .before .before .before .before .before .before .colour .ensures) (c .before .before .before .before .before .before .before .before .choose .ensures) _ _ (c .before .before .before .begin .ensures)
+spread-requires c κs =
+    let at-begin = c .before .before .before in
+    let at-choose = at-begin .before .before .before .before .before in
+    let at-colour = at-choose .before .before .before .before in
+    let at-one = at-colour .before .before .before .before in
+    let begins = at-one .before .before .before .before .before .before .before .before in
+    spread-ask _ _ _ _ _ _ _ (begins .pre) _ (at-one .one .ensures) _ _ (at-colour .colour .ensures) (at-choose .choose .ensures) _ _ (at-begin .begin .ensures)
 
 add-gather : tie.Need-add-gather
-add-gather c = omega (arith, c .before .before .before .before .before .before .before .before .before .before .before .before .before .before .before .before .before .before .before .before .before .before .before .before .before .before .before .before .pre)
+add-gather c =
+    let begins = c .before .before .before .before .before .before .before .before .before .before .before .before .before .before .before .before .before .before .before .before .before .before .before .before .before .before .before .before in
+    omega (arith, begins .pre)
 
 gather-requires : tie.Need-gather-requires
-gather-requires c κs = gather-ask _ _ _ _ _ _ _ (c .before .before .before .before .before .before .before .before .before .before .before .before .before .before .before .before .before .before .before .before .before .before .before .before .before .before .before .before .before .pre) _ (c .before .before .before .before .before .before .before .before .before .before .before .before .before .before .before .before .before .before .before .before .before .one .ensures) _ _ (c .before .before .before .before .before .before .before .before .before .before .before .before .before .before .before .before .before .colour .ensures) (c .before .before .before .before .before .before .before .before .before .before .before .before .before .choose .ensures) _ _ (c .before .before .before .before .before .before .before .before .begin .ensures) _ _ _ (c .before .before .before .before .spread .ensures)
+gather-requires c κs =
+    let at-spread = c .before .before .before .before in
+    let at-begin = at-spread .before .before .before .before in
+    let at-choose = at-begin .before .before .before .before .before in
+    let at-colour = at-choose .before .before .before .before in
+    let at-one = at-colour .before .before .before .before in
+    let begins = at-one .before .before .before .before .before .before .before .before in
+    gather-ask _ _ _ _ _ _ _ (begins .pre) _ (at-one .one .ensures) _ _ (at-colour .colour .ensures) (at-choose .choose .ensures) _ _ (at-begin .begin .ensures) _ _ _ (at-spread .spread .ensures)
 
 same-length : tie.Need-same-length
-same-length c = (found _ _ _ _ _ _ _ (c .before .before .before .before .before .before .before .before .before .before .before .before .before .before .before .before .before .before .before .before .before .before .before .before .before .before .before .before .before .before .before .before .pre) _ (c .before .before .before .before .before .before .before .before .before .before .before .before .before .before .before .before .before .before .before .before .before .before .before .before .one .ensures) _ _ (c .before .before .before .before .before .before .before .before .before .before .before .before .before .before .before .before .before .before .before .before .colour .ensures) (c .before .before .before .before .before .before .before .before .before .before .before .before .before .before .before .before .choose .ensures) _ _ (c .before .before .before .before .before .before .before .before .before .before .before .begin .ensures) _ _ _ (c .before .before .before .before .before .before .before .spread .ensures) _ (c .before .before .gather .ensures)) .frame .long
+same-length c =
+    let at-spread = c .before .before .before .before .before .before .before in
+    let at-begin = at-spread .before .before .before .before in
+    let at-colour = at-begin .before .before .before .before .before .before .before .before .before in
+    let at-one = at-colour .before .before .before .before in
+    at-spread .spread .ensures .grew .kept .long ∙ at-begin .begin .ensures .grew .kept .long ∙ at-colour .colour .ensures .frame .long ∙ at-one .one .ensures .long
 
 same-length-2 : tie.Need-same-length-2
 same-length-2 c = search needs
 
 returns : tie.Need-returns
-returns c = found _ _ _ _ _ _ _ (c .before .before .before .before .before .before .before .before .before .before .before .before .before .before .before .before .before .before .before .before .before .before .before .before .before .before .before .before .before .before .before .before .pre) _ (c .before .before .before .before .before .before .before .before .before .before .before .before .before .before .before .before .before .before .before .before .before .before .before .before .one .ensures) _ _ (c .before .before .before .before .before .before .before .before .before .before .before .before .before .before .before .before .before .before .before .before .colour .ensures) (c .before .before .before .before .before .before .before .before .before .before .before .before .before .before .before .before .choose .ensures) _ _ (c .before .before .before .before .before .before .before .before .before .before .before .begin .ensures) _ _ _ (c .before .before .before .before .before .before .before .spread .ensures) _ (c .before .before .gather .ensures)
+returns c =
+    let at-gather = c .before .before in
+    let at-spread = at-gather .before .before .before .before .before in
+    let at-begin = at-spread .before .before .before .before in
+    let at-choose = at-begin .before .before .before .before .before in
+    let at-colour = at-choose .before .before .before .before in
+    let at-one = at-colour .before .before .before .before in
+    let begins = at-one .before .before .before .before .before .before .before .before in
+    found _ _ _ _ _ _ _ (begins .pre) _ (at-one .one .ensures) _ _ (at-colour .colour .ensures) (at-choose .choose .ensures) _ _ (at-begin .begin .ensures) _ _ _ (at-spread .spread .ensures) _ (at-gather .gather .ensures)
 
 pub run-spec : {M : Type 1} → statement M
 run-spec =
