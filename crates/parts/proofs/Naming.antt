@@ -24,6 +24,9 @@ lowest-step n b w i d l l' z s = record {
       (λ t. inr (i, omega arith, sym (t .0), rw (t .0) (t .1))) (s .one);
 }
 
+pub low-le : {n b : ℕ} {w : List ℕ} {k d l : ℕ} → Lowest n b w k d l → Queued n b w k → l ≤ n
+low-le z q = ⊎-elim (λ t. omega (arith, t)) (λ t. omega (arith, t .2, q .member (t .0) (t .1))) (z .found)
+
 pub named-none : (n b : ℕ) (w : List ℕ) (d l : ℕ) → Named n b w 0 d l w
 named-none n b w d l = record { each = λ v h. inl refl; done = λ i h. absurd (omega arith); low = λ j h. refl; high = λ j h. refl; long = refl }
 

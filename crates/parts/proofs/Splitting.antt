@@ -183,6 +183,24 @@ module _ (g : Graph) (b p q f : ℕ) (w : List ℕ) (a : SplitAsk g b p q f w) w
           miss₃ : (v : ℕ) → v < g .n → (col b w₂ v ≡ f + 2 → ⊥) → col b w₃ v ≡ col b w₂ v
           miss₃ v h o = ⊎-elim (λ t. t) (λ t. absurd (o (t .0))) (nm .each v h)
 
+          -- what a search has hit has left the part, and nothing else has
+          pub left : (v : ℕ) → v < g .n → Hit g (paint q f q f) b (only p) w v ⊎ Hit (rev g) (paint q (f + 1) f (f + 2)) b (only p) w₁ v → col b w₃ v ≡ q → ⊥
+          left v h t e = ⊎-elim
+              (λ x. ⊎-elim
+              (λ y. omega (arith, hit₃ v h (y .1 ∙ ap (paint q (f + 1) f (f + 2)) (x .1) ∙ paint-second q (f + 1) f (f + 2) (omega (arith, qf))), l-low, a .part, e))
+              (λ y. omega (arith, miss₃ v h (omega (arith, y .1, x .1)), y .1, x .1, qf, e)) (s₂ .each v h))
+              (λ x. ⊎-elim
+              (λ y. let z : col b w₂ v ≡ f + 1 = y .1 ∙ ap (paint q (f + 1) f (f + 2)) (x .1 ∙ B-in v (hit-B v (y .0)) .1) ∙ paint-first q (f + 1) f (f + 2) in
+              omega (arith, miss₃ v h (omega (arith, z)), z, qf, e))
+              (λ y. ⊎-elim (λ i. x .0 (hit-F v i)) (λ i. y .0 i) t) (s₂ .each v h))
+              (one v h)
+
+          pub stays : (v : ℕ) → v < g .n → (Hit g (paint q f q f) b (only p) w v → ⊥) → (Hit (rev g) (paint q (f + 1) f (f + 2)) b (only p) w₁ v → ⊥) → col b w₃ v ≡ col b w v
+          stays v h o r =
+              let x : col b w₁ v ≡ col b w v = ⊎-elim (λ y. absurd (o (y .0))) (λ y. y .1) (s .each v h) in
+              let y : col b w₂ v ≡ col b w₁ v = ⊎-elim (λ y. absurd (r (y .0))) (λ y. y .1) (s₂ .each v h) in
+              miss₃ v h (omega (arith, x, y, a .owned .below v h)) ∙ y ∙ x
+
           -- a vertex has its label, or one of the new parts, or what it had
           ends : (v : ℕ) → v < g .n → (FB v × (col b w₃ v ≡ l)) ⊎ (((col b w v ≡ q) × ((col b w₃ v ≡ f) ⊎ (col b w₃ v ≡ f + 1))) ⊎ (col b w₃ v ≡ col b w v))
           ends v h = ⊎-elim

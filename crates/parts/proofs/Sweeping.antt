@@ -29,6 +29,7 @@ lt-T a b h = rw (lt-ltb a b h) tt
 pub placed-kept : (n b : ℕ) (w w' : List ℕ) → ((i : ℕ) → ord n b w' i ≡ ord n b w i) → Placed n b w → Placed n b w'
 placed-kept n b w w' s p = record {
   low = λ i h. rw (s i) (p .low i h);
+  one = λ i j h l e. p .one i j h l (sym (s i) ∙ e ∙ s j);
   all = λ v h. let y = p .all v h in (y .0, y .1, s (y .0) ∙ y .2);
 }
 

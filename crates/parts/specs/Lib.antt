@@ -3,3 +3,4 @@ pub mod Split
 pub mod Chain
 pub mod Sweep
 pub mod Share
+pub mod Drawn

@@ -43,6 +43,16 @@ pub record Named (n b : ℕ) (w : List ℕ) (k d l : ℕ) (w' : List ℕ) : Type
   pub high : (j : ℕ) → b + n ≤ j → getD w' j 0 ≡ getD w j 0
   pub long : length w' ≡ length w
 
+pub record LabelAsk (n b : ℕ) (w : List ℕ) (k d : ℕ) : Type 0 where
+  pub queued : Queued n b w k
+  pub part : n < d
+
+-- What has the colour d among the first k of the queue has got its lowest vertex as colour.
+pub record Labelled (n b : ℕ) (w : List ℕ) (k d : ℕ) (w' : List ℕ) : Type 0 where
+  pub vertex : ℕ
+  pub lowest : Lowest n b w k d vertex
+  pub named : Named n b w k d vertex w'
+
 -- p is a vertex of the part q; f, f + 1 and f + 2 are no colours yet.
 pub record SplitAsk (g : Graph) (b p q f : ℕ) (w : List ℕ) : Type 0 where
   pub tables : Tables g b w

@@ -42,9 +42,10 @@ rings g b w = many (ring (g .n) (col b w)) (g .n)
 abbrev pub ord : ℕ → ℕ → List ℕ → ℕ → ℕ
 ord n b w i = getD w (b + 9 * n + 2 + i) 0
 
--- The order has vertices only, and each of them.
+-- The order has vertices only, and each of them once.
 pub record Placed (n b : ℕ) (w : List ℕ) : Type 0 where
   pub low : (i : ℕ) → i < n → ord n b w i < n
+  pub one : (i j : ℕ) → i < n → j < n → ord n b w i ≡ ord n b w j → i ≡ j
   pub all : (v : ℕ) → v < n → (i : ℕ) × (i < n) × (ord n b w i ≡ v)
 
 -- top is the first colour that no part has; each vertex without a label has room for two colours more.

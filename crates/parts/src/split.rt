@@ -3,7 +3,7 @@ ghost use mathlib.Core.Path.{_≡_};
 ghost use Prim.Native.Nat.{_<_};
 ghost use lib.ListN.{length};
 ghost use Rattle.graph.specs.Graph.{graph};
-ghost use Rattle.parts.specs.Split.{Lower, Lowest, Renamed, Queued, NameAsk, Named, SplitAsk, Split};
+ghost use Rattle.parts.specs.Split.{Lower, Lowest, Renamed, Queued, NameAsk, Named, LabelAsk, Labelled, SplitAsk, Split};
 
 // The lower of l and v, if v's colour y is d; else l.
 fn lower(l: usize, v: usize, y: u32, d: u32) -> usize
@@ -57,6 +57,15 @@ fn name(n: usize, w: &mut [u32], b: usize, k: usize, d: u32, l: u32)
     }
 }
 
+// What has the colour d among the first k of the queue gets its lowest vertex as colour.
+pub fn label(n: usize, w: &mut [u32], b: usize, k: usize, d: u32)
+    requires { ⌜ LabelAsk n b (now w) k d ⌝ }
+    ensures { λ _. ⌜ Labelled n b (now (w .entry)) k d (now (w .exit)) ⌝ }
+{
+    let l = lowest(n, w, b, k, d);
+    name(n, w, b, k, d, l as u32);
+}
+
 // The part q is split at its vertex p: the rest of what p reaches becomes f, the rest of what reaches p f + 1.
 pub fn split(
     sources: &[u32],
@@ -74,6 +83,5 @@ pub fn split(
     let rx = n + 1 + sources.len();
     paint::search(sources, targets, n, w, 0, b, p, q, f, q, f);
     let s = paint::search(targets, sources, n, w, rx, b, p, q, f + 1, f, f + 2);
-    let l = lowest(n, w, b, s.k, f + 2);
-    name(n, w, b, s.k, f + 2, l as u32);
+    label(n, w, b, s.k, f + 2);
 }

@@ -2,7 +2,7 @@ use mathlib.Core.Path.{refl}
 use native.Mathlib.Omega.{arith}
 use borrow.Author.Needs.{needs}
 use Rattle.graph.specs.Graph.{graph}
-use Rattle.parts.proofs.Splitting.{first-ask, second-ask, queued, l-low, split-all}
+use Rattle.parts.proofs.Splitting.{first-ask, second-ask, queued, split-all}
 use Rattle.parts.proofs.split.split.Statement.{statement}
 use Rattle.parts.proofs.split.split.Tie as tie
 
@@ -24,26 +24,17 @@ add-search-2 c = search needs
 search-requires-2 : tie.Need-search-requires-2
 search-requires-2 c κs = let s = c .before .before .before .before .before .before .before .before in second-ask (graph (s .args .n) (s .args .sources .now) (s .args .targets .now)) (s .args .b) (s .args .p) (s .args .q) (s .args .f) (s .args .w .now) (s .pre) _ _ _ (c .before .before .before .search .ensures) (λ e. refl)
 
-add-lowest : tie.Need-add-lowest
-add-lowest c = search needs
+add-label : tie.Need-add-label
+add-label c = search needs
 
-lowest-requires : tie.Need-lowest-requires
-lowest-requires c κs = let s = c .before .before .before .before .before .before .before .before .before .before .before .before in queued (graph (s .args .n) (s .args .sources .now) (s .args .targets .now)) (s .args .b) (s .args .p) (s .args .q) (s .args .f) (s .args .w .now) (s .pre) _ _ _ (c .before .before .before .before .before .before .before .search .ensures) _ _ _ (c .before .before .before .search2 .ensures)
-
-add-name : tie.Need-add-name
-add-name c = search needs
-
-cast-name : tie.Need-cast-name
-cast-name c = let s = c .before .before .before .before .before .before .before .before .before .before .before .before .before .before in omega (arith, l-low (graph (s .args .n) (s .args .sources .now) (s .args .targets .now)) (s .args .b) (s .args .p) (s .args .q) (s .args .f) (s .args .w .now) (s .pre) _ _ _ (c .before .before .before .before .before .before .before .before .before .search .ensures) _ _ _ (c .before .before .before .before .before .search2 .ensures) _ (c .before .lowest .ensures), s .pre .tables .small)
-
-name-requires : tie.Need-name-requires
-name-requires c κs = let s = c .before .before .before .before .before .before .before .before .before .before .before .before .before .before in record { queued = queued (graph (s .args .n) (s .args .sources .now) (s .args .targets .now)) (s .args .b) (s .args .p) (s .args .q) (s .args .f) (s .args .w .now) (s .pre) _ _ _ (c .before .before .before .before .before .before .before .before .before .search .ensures) _ _ _ (c .before .before .before .before .before .search2 .ensures); other = λ e. omega (arith, l-low (graph (s .args .n) (s .args .sources .now) (s .args .targets .now)) (s .args .b) (s .args .p) (s .args .q) (s .args .f) (s .args .w .now) (s .pre) _ _ _ (c .before .before .before .before .before .before .before .before .before .search .ensures) _ _ _ (c .before .before .before .before .before .search2 .ensures) _ (c .before .lowest .ensures), s .pre .part, s .pre .owned .below (s .args .p) (s .pre .start), s .pre .live, e) }
+label-requires : tie.Need-label-requires
+label-requires c κs = let s = c .before .before .before .before .before .before .before .before .before .before .before .before in record { queued = queued (graph (s .args .n) (s .args .sources .now) (s .args .targets .now)) (s .args .b) (s .args .p) (s .args .q) (s .args .f) (s .args .w .now) (s .pre) _ _ _ (c .before .before .before .before .before .before .before .search .ensures) _ _ _ (c .before .before .before .search2 .ensures); part = omega (arith, s .pre .part, s .pre .owned .below (s .args .p) (s .pre .start), s .pre .live) }
 
 same-length : tie.Need-same-length
 same-length c = search needs
 
 returns : tie.Need-returns
-returns c = let s = c .before .before .before .before .before .before .before .before .before .before .before .before .before .before .before .before .before in split-all (graph (s .args .n) (s .args .sources .now) (s .args .targets .now)) (s .args .b) (s .args .p) (s .args .q) (s .args .f) (s .args .w .now) (s .pre) _ _ _ (c .before .before .before .before .before .before .before .before .before .before .before .before .search .ensures) _ _ _ (c .before .before .before .before .before .before .before .before .search2 .ensures) _ (c .before .before .before .before .lowest .ensures) _ (c .before .before .name .ensures)
+returns c = let s = c .before .before .before .before .before .before .before .before .before .before .before .before .before .before .before in let z = c .before .before .label .ensures in split-all (graph (s .args .n) (s .args .sources .now) (s .args .targets .now)) (s .args .b) (s .args .p) (s .args .q) (s .args .f) (s .args .w .now) (s .pre) _ _ _ (c .before .before .before .before .before .before .before .before .before .before .search .ensures) _ _ _ (c .before .before .before .before .before .before .search2 .ensures) (z .vertex) (z .lowest) _ (z .named)
 
 pub split-spec : {M : Type 1} → statement M
 split-spec =
@@ -55,10 +46,7 @@ split-spec =
     add-search
     add-search-2
     search-requires-2
-    add-lowest
-    lowest-requires
-    add-name
-    cast-name
-    name-requires
+    add-label
+    label-requires
     same-length
     returns)

@@ -1,0 +1,24 @@
+use native.Mathlib.Omega.{arith}
+use borrow.Author.Needs.{needs}
+use Rattle.parts.proofs.Naming.{low-le}
+use Rattle.parts.proofs.Splitting.{queued}
+use Rattle.parts.proofs.split.label.Statement.{statement}
+use Rattle.parts.proofs.split.label.Tie as tie
+
+lowest-requires : tie.Need-lowest-requires
+lowest-requires c κs = search needs
+
+cast-name : tie.Need-cast-name
+cast-name c = let s = c .before .before .before .before in let l = c .before .lowest .ensures in omega (arith, s .pre .queued .small, low-le l (s .pre .queued))
+
+name-requires : tie.Need-name-requires
+name-requires c κs = let s = c .before .before .before .before in let l = c .before .lowest .ensures in record { queued = s .pre .queued; other = λ e. omega (arith, e, s .pre .part, low-le l (s .pre .queued)) }
+
+same-length : tie.Need-same-length
+same-length c = search needs
+
+returns : tie.Need-returns
+returns c = record { vertex = c .before .before .before .before .lowest .result; lowest = c .before .before .before .before .lowest .ensures; named = c .before .before .name .ensures }
+
+pub label-spec : {M : Type 1} → statement M
+label-spec = tie.close (tie.spec lowest-requires cast-name name-requires same-length returns)
