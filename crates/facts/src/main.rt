@@ -2,12 +2,14 @@
 mod columns;
 mod draws;
 mod out;
+mod searches;
 mod summaries;
 mod t;
 mod tables;
 
 fn main() {
     tables::run();
+    searches::run();
     summaries::run();
     columns::run();
     draws::run();
