@@ -1,0 +1,4 @@
+pub mod Decimal
+pub mod Bytes
+pub mod Outcome
+pub mod Unique
