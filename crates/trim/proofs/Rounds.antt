@@ -1,0 +1,198 @@
+-- The neighbours of what went are examined; the whole part is passed; the end.
+use Prim.Native.Nat.{ℕ, suc, _+_, _*_, _≤_, _<_}
+use native.Mathlib.Omega.{arith}
+use native.Mathlib.Decide.{ℕ-discrete}
+use mathlib.Core.Path.{_≡_, refl, sym, ap, _∙_}
+use mathlib.Core.Logic.{_⊎_, inl, inr, ⊎-elim}
+use mathlib.Core.List.{List}
+use lib.ListN.{length, getD}
+use Rattle.graph.specs.Graph.{Graph, Part, all, rev, edges}
+use Rattle.index.specs.Index.{start}
+use Rattle.paint.specs.Colours.{col, que}
+use Rattle.paint.specs.Paint.{other, Laid}
+use Rattle.trim.specs.Chain.{ord, own, nxt}
+use Rattle.trim.specs.Trim.{revAt, intoAt, outAt}
+use Rattle.trim.specs.Cursor.{ahead, Stands}
+use Rattle.trim.specs.Prune.{Pruning, Pruned, Fresh, Off, Standing, AllStanding, ExamineAsk, Examined, AroundAsk, Around, BesideAsk, Beside, PassAsk}
+use Rattle.index.proofs.Counts.{start-mono}
+use Rattle.trim.proofs.Walks.{last-le, place-edge, ends-at}
+use Rattle.trim.proofs.Aims.{Along, along-less}
+use Rattle.trim.proofs.Steps.{shrinks, fresh-kept, standing-kept, stands-fresh, stands-standing, fresh-off, pruned-none, pruned-more}
+
+-- THE NEIGHBOURS AT THE PLACES OF AN INDEX
+pub around-none : (g : Graph) (eb b : ℕ) (ends : List ℕ) (i t q k : ℕ) (w : List ℕ) → AroundAsk g eb b ends i t q k w → Around g eb b ends i i q k w w k
+around-none g eb b ends i t q k w a = record { pruned = pruned-none g b q k w (a .state); fresh = λ j h l. absurd (omega arith) }
+
+module _ (g : Graph) (eb b : ℕ) (ends : List ℕ) (i₀ t q k₀ : ℕ) (w₀ : List ℕ) (a : AroundAsk g eb b ends i₀ t q k₀ w₀)
+    (i : ℕ) (w : List ℕ) (k : ℕ) (z : Around g eb b ends i₀ i q k₀ w₀ w k) (l : i₀ ≤ i) (h : i < t) where
+  same-number : getD w (eb + i) 0 ≡ getD w₀ (eb + i) 0
+  same-number = z .pruned .aside .low (eb + i) (omega (arith, a .below))
+
+  pub around-edge : getD w (eb + i) 0 < length ends
+  around-edge = omega (arith, same-number, a .edges i l h)
+
+  pub around-low : other w eb ends i < g .n
+  around-low = a .low (getD w (eb + i) 0) around-edge
+
+  pub around-ask : ExamineAsk g b (other w eb ends i) q k w
+  around-ask = record { state = z .pruned .state; low = around-low }
+
+  module _ (w' : List ℕ) (k' : ℕ) (e : Examined g b (other w eb ends i) q k w w' k') where
+    less : (u : ℕ) → u < g .n → col b w u ≡ q → col b w₀ u ≡ q
+    less = shrinks (g .n) b q k₀ w₀ w k (z .pruned .each)
+
+    less' : (u : ℕ) → u < g .n → col b w' u ≡ q → col b w u ≡ q
+    less' = shrinks (g .n) b q k w w' k' (e .pruned .each)
+
+    abbrev Two : ℕ → Type 0
+    Two x = Fresh g 0 (outAt g b) b q w₀ w' x × Fresh (rev g) (revAt g) (intoAt g b) b q w₀ w' x
+
+    old : (x : ℕ) → x < g .n → col b w' x ≡ q → Fresh g 0 (outAt g b) b q w₀ w x × Fresh (rev g) (revAt g) (intoAt g b) b q w₀ w x → Two x
+    old x m p (f, d) = (
+      fresh-kept g 0 (outAt g b) b q k w w' k' (z .pruned .state .walking .out) (e .pruned .state .walking .out) (e .pruned .aside .low) (e .pruned .each) (e .pruned .out) x m p w₀ less f,
+      fresh-kept (rev g) (revAt g) (intoAt g b) b q k w w' k' (z .pruned .state .walking .into) (e .pruned .state .walking .into) (e .pruned .aside .low) (e .pruned .each) (e .pruned .into) x m p w₀ less d,
+    )
+
+    new : (x : ℕ) → x < g .n → col b w' x ≡ q → Stands g 0 (outAt g b) b q w' x × Stands (rev g) (revAt g) (intoAt g b) b q w' x → Two x
+    new x m p (f, d) = (
+      stands-fresh g 0 (outAt g b) b q w₀ w' (e .pruned .state .walking .out) (λ u n c. less u n (less' u n c)) x m p f,
+      stands-fresh (rev g) (revAt g) (intoAt g b) b q w₀ w' (e .pruned .state .walking .into) (λ u n c. less u n (less' u n c)) x m p d,
+    )
+
+    pub around-step : Around g eb b ends i₀ (i + 1) q k₀ w₀ w' k'
+    around-step = record {
+      pruned = pruned-more g b q k₀ w₀ w w' k k' (z .pruned) (e .pruned);
+      fresh = λ j m n p. elim (ℕ-discrete j i) as (λ _. Two (other w₀ eb ends j)) [
+        | yes y ↦ rw y (
+            let s : other w eb ends i ≡ other w₀ eb ends i = ap (λ (x : ℕ). getD ends x 0) same-number in
+            let c : col b w' (other w₀ eb ends i) ≡ q = rw y at p in
+            new (other w₀ eb ends i) (rw s at around-low) c (rw s at (e .stands (ap (col b w') s ∙ c))))
+        | no y ↦
+            let x = other w₀ eb ends j in
+            let low : x < g .n = a .low (getD w₀ (eb + j) 0) (a .edges j m (omega arith)) in
+            old x low p (z .fresh j m (omega arith) (less' x low p))
+      ];
+    }
+
+-- in the index of d, which is g or its reverse
+pub beside-ask : (g d : Graph) (ix b u q k : ℕ) (w : List ℕ) → Laid d ix b w → d .n ≡ g .n → u < d .n → Pruning g b q k w
+    → AroundAsk g (ix + d .n + 1) b (d .tgt) (getD w (ix + u) 0) (getD w (ix + u + 1) 0) q k w
+beside-ask g d ix b u q k w x e l s =
+    let f : getD w (ix + u) 0 ≡ start (d .src) u = x .index .offs u (omega arith) in
+    let t = ends-at d ix b w x u l in
+    record {
+      state = s;
+      order = omega (arith, f, t, start-mono (d .src) u (suc u) (omega arith));
+      below = omega (arith, t, last-le d ix b w x u l, x .below);
+      edges = λ j m n. omega (arith, x .valid .same, place-edge d ix b w x u j l (omega (arith, f)) (omega (arith, t)) .0);
+      low = λ c m. omega (arith, x .valid .to-low c (omega (arith, x .valid .same)), e);
+    }
+
+-- u has gone, and its neighbours in both directions were examined
+module _ (g : Graph) (b u q k : ℕ) (w : List ℕ) (a : BesideAsk g b u q k w)
+    (w₁ : List ℕ) (k₁ : ℕ) (y : Around g (0 + g .n + 1) b (g .tgt) (getD w (0 + u) 0) (getD w (0 + u + 1) 0) q k w w₁ k₁) where
+  pub beside-second : AroundAsk g (revAt g + g .n + 1) b (g .src) (getD w₁ (revAt g + u) 0) (getD w₁ (revAt g + u + 1) 0) q k₁ w₁
+  beside-second = beside-ask g (rev g) (revAt g) b u q k₁ w₁ (y .pruned .state .walking .into .laid) refl (a .low) (y .pruned .state)
+
+  module _ (w₂ : List ℕ) (k₂ : ℕ) (z : Around g (revAt g + g .n + 1) b (g .src) (getD w₁ (revAt g + u) 0) (getD w₁ (revAt g + u + 1) 0) q k₁ w₁ w₂ k₂) where
+    fore : Laid g 0 b w
+    fore = a .state .walking .out .laid
+
+    back : Laid (rev g) (revAt g) b w₁
+    back = y .pruned .state .walking .into .laid
+
+    less₁ : (v : ℕ) → v < g .n → col b w₁ v ≡ q → col b w v ≡ q
+    less₁ = shrinks (g .n) b q k w w₁ k₁ (y .pruned .each)
+
+    less₂ : (v : ℕ) → v < g .n → col b w₂ v ≡ q → col b w₁ v ≡ q
+    less₂ = shrinks (g .n) b q k₁ w₁ w₂ k₂ (z .pruned .each)
+
+    targets-fresh : (j : ℕ) → start (g .src) u ≤ j → j < start (g .src) (suc u) → col b w₂ (other w (0 + g .n + 1) (g .tgt) j) ≡ q
+        → Fresh (rev g) (revAt g) (intoAt g b) b q w w₂ (other w (0 + g .n + 1) (g .tgt) j)
+    targets-fresh j m n p =
+        let x = other w (0 + g .n + 1) (g .tgt) j in
+        let low : x < g .n = fore .valid .to-low (getD w (0 + g .n + 1 + j) 0) (place-edge g 0 b w fore u j (a .low) m n .0) in
+        fresh-kept (rev g) (revAt g) (intoAt g b) b q k₁ w₁ w₂ k₂ (y .pruned .state .walking .into) (z .pruned .state .walking .into) (z .pruned .aside .low) (z .pruned .each) (z .pruned .into)
+        x low p w less₁ (y .fresh j (omega (arith, fore .index .offs u (omega (arith, a .low)))) (omega (arith, ends-at g 0 b w fore u (a .low))) (less₂ x low p) .1)
+
+    pub beside-all : Beside g b u q k w w₂ k₂
+    beside-all = record {
+      pruned = pruned-more g b q k w w₁ w₂ k₁ k₂ (y .pruned) (z .pruned);
+      out = fresh-off g 0 (outAt g b) b q (revAt g) w₁ w₂ u (a .low) (λ p. a .went (less₁ u (a .low) p)) (z .pruned .state .walking .out) back
+          (λ j m n p. z .fresh j (omega (arith, back .index .offs u (omega (arith, a .low)))) (omega (arith, ends-at (rev g) (revAt g) b w₁ back u (a .low))) p .0);
+      into = fresh-off (rev g) (revAt g) (intoAt g b) b q 0 w w₂ u (a .low) (a .went) (z .pruned .state .walking .into) fore targets-fresh;
+    }
+
+-- THE QUEUE IS DRAINED
+module _ (g : Graph) (b q : ℕ) (P : Part) (h k : ℕ) (w w' : List ℕ) (k' : ℕ) (z : Pruned g b q k w w' k') (s : Pruning g b q k w) (le : h ≤ k) where
+  pub all-kept : AllStanding g b q P h k w → AllStanding g b q P h k' w'
+  all-kept f v m l p =
+      let (o, i) = f v m l (shrinks (g .n) b q k w w' k' (z .each) v l p) in (
+        standing-kept g 0 (outAt g b) b q k w w' k' (s .walking .out) (z .state .walking .out) (z .aside .low) (z .each) (z .out) v l p h le (z .more) (z .front) o,
+        standing-kept (rev g) (revAt g) (intoAt g b) b q k w w' k' (s .walking .into) (z .state .walking .into) (z .aside .low) (z .each) (z .into) v l p h le (z .more) (z .front) i,
+      )
+
+pub off-standing : (g : Graph) (ix cb b q h k : ℕ) (w : List ℕ) (u v : ℕ) → v < g .n → col b w v ≡ q → que (g .n) b w h ≡ u → Off g ix cb b q u w
+    → Standing g ix cb b q h k w v → Standing g ix cb b q (h + 1) k w v
+off-standing g ix cb b q h k w u v l p e o s = record {
+  before = s .before;
+  inside = ⊎-elim (λ i. inl i)
+      (λ (i, m, n, c). elim (ℕ-discrete i h) as (λ _. (col b w (ahead g ix cb w v) ≡ q) ⊎ ((i : ℕ) × (h + 1 ≤ i) × (i < k) × (que (g .n) b w i ≡ ahead g ix cb w v))) [
+        | yes y ↦ absurd (o v l p (s .before) (sym c ∙ ap (que (g .n) b w) y ∙ e))
+        | no y ↦ inr (i, omega arith, n, c)
+      ])
+      (s .inside);
+}
+
+pub drain-step : (g : Graph) (b q h k : ℕ) (w w' : List ℕ) (k' : ℕ) → Pruning g b q k w → h < k → Beside g b (que (g .n) b w h) q k w w' k'
+    → AllStanding g b q all h k w → AllStanding g b q all (h + 1) k' w'
+drain-step g b q h k w w' k' s l z f v m n p =
+    let u = que (g .n) b w h in
+    let (o, i) = all-kept g b q all h k w w' k' (z .pruned) s (omega arith) f v m n p in
+    let e = z .pruned .front h l in
+    (off-standing g 0 (outAt g b) b q h k' w' u v n p e (z .out) o, off-standing (rev g) (revAt g) (intoAt g b) b q h k' w' u v n p e (z .into) i)
+
+stands-end : (g : Graph) (ix cb b q h k : ℕ) (w : List ℕ) (v : ℕ) → k ≤ h → Standing g ix cb b q h k w v → Stands g ix cb b q w v
+stands-end g ix cb b q h k w v l s = record { before = s .before; inside = ⊎-elim (λ i. i) (λ (i, m, n, c). absurd (omega arith)) (s .inside) }
+
+pub drain-end : (g : Graph) (b q h k : ℕ) (w : List ℕ) → k ≤ h → AllStanding g b q all h k w → (v : ℕ) → v < g .n → col b w v ≡ q
+    → Stands g 0 (outAt g b) b q w v × Stands (rev g) (revAt g) (intoAt g b) b q w v
+drain-end g b q h k w l f v m p =
+    let (o, i) = f v tt m p in
+    (stands-end g 0 (outAt g b) b q h k w v l o, stands-end (rev g) (revAt g) (intoAt g b) b q h k w v l i)
+
+pub few-gone : (g : Graph) (b q k : ℕ) (w : List ℕ) → Pruning g b q k w → k ≤ g .n
+few-gone g b q k w s = omega (arith, s .room)
+
+-- THE PART IS PASSED
+-- the vertices at the places below i
+abbrev pub Before : ℕ → ℕ → List ℕ → ℕ → Part
+Before n b w i v = (j : ℕ) × (j < i) × (j < n) × (ord n b w j ≡ v)
+
+module _ (g : Graph) (b h q : ℕ) (w₀ : List ℕ) (a : PassAsk g b h q w₀) where
+  pub pass-none : AllStanding g b q (Before (g .n) b w₀ h) 0 0 w₀
+  pass-none v (j, m, n, e) l p = absurd (a .chain .head .none j m (ap (col b w₀) e ∙ p))
+
+  pub pass-end : (k i : ℕ) (w : List ℕ) → g .n ≤ i → AllStanding g b q (Before (g .n) b w₀ i) 0 k w → AllStanding g b q all 0 k w
+  pass-end k i w m f v _ l p = let (j, n, e) = a .chain .placed .all v l in f v (j, omega arith, n, e) l p
+
+  module _ (i : ℕ) (w : List ℕ) (k : ℕ) (c : Along (g .n) b q w₀ i) (z : Pruned g b q 0 w₀ w k) (l : i < g .n) where
+    pub pass-next : getD w (b + 2 * g .n + i) 0 ≡ nxt (g .n) b w₀ i
+    pass-next = z .aside .mid (b + 2 * g .n + i) (omega arith) (omega arith)
+
+    pub pass-place : getD w (b + 9 * g .n + 2 + i) 0 ≡ ord (g .n) b w₀ i
+    pass-place = z .aside .high (b + 9 * g .n + 2 + i) (omega arith)
+
+    pub pass-low : getD w (b + 9 * g .n + 2 + i) 0 < g .n
+    pass-low = omega (arith, pass-place, a .chain .placed .low i l)
+
+    pub pass-step : (w' : List ℕ) (k' : ℕ) → Examined g b (getD w (b + 9 * g .n + 2 + i) 0) q k w w' k'
+        → AllStanding g b q (Before (g .n) b w₀ i) 0 k w → AllStanding g b q (Before (g .n) b w₀ (nxt (g .n) b w₀ i)) 0 k' w'
+    pass-step w' k' e f u (j, m, t, d) n p =
+        elim (ℕ-discrete u (getD w (b + 9 * g .n + 2 + i) 0)) as (λ _. Standing g 0 (outAt g b) b q 0 k' w' u × Standing (rev g) (revAt g) (intoAt g b) b q 0 k' w' u) [
+          | yes y ↦ (let (o, s) = rw (sym y) at (e .stands (rw y at p)) in
+              (stands-standing g 0 (outAt g b) b q 0 k' w' u o, stands-standing (rev g) (revAt g) (intoAt g b) b q 0 k' w' u s))
+          | no y ↦ (let was : own (g .n) b w₀ j ≡ q = ap (col b w₀) d ∙ shrinks (g .n) b q 0 w₀ w k (z .each) u n (shrinks (g .n) b q k w w' k' (e .pruned .each) u n p) in
+              all-kept g b q (Before (g .n) b w₀ i) 0 k w w' k' (e .pruned) (z .state) (omega arith) f u
+              (j, along-less (g .n) b q h i j w₀ (a .chain) c l m was (λ s. y (sym d ∙ ap (ord (g .n) b w₀) s ∙ sym pass-place)), t, d) n p)
+        ]

@@ -1,0 +1,88 @@
+use native.Mathlib.Omega.{arith}
+use lib.ListN.{length-set}
+use borrow.Author.Needs.{needs}
+use Rattle.graph.specs.Graph.{graph}
+use Rattle.trim.proofs.Goes.{examine-skip, k-low, examine-stay, examine-go}
+use Rattle.trim.proofs.prune.examine.Statement.{statement}
+use Rattle.trim.proofs.prune.examine.Tie as tie
+
+add-if1 : tie.Need-add-if1
+add-if1 c = search needs
+
+mul-if1 : tie.Need-mul-if1
+mul-if1 c = search needs
+
+slice-read-if1 : tie.Need-slice-read-if1
+slice-read-if1 c = search needs
+
+returns : tie.Need-returns
+returns c = let s = c .before .before .before .before .before in examine-skip (graph (s .args .n) (s .args .sources .now) (s .args .targets .now)) (s .args .b) (s .args .v) (s .args .q) (s .args .k) (s .args .w .now) (s .pre) (c .if1 .taken)
+
+tied-requires : tie.Need-tied-requires
+tied-requires c κs = search needs
+
+same-length : tie.Need-same-length
+same-length c = search needs
+
+returns-2 : tie.Need-returns-2
+returns-2 c = let s = c .before .before .before .before .before .before .before .before .before .before in examine-stay (graph (s .args .n) (s .args .sources .now) (s .args .targets .now)) (s .args .b) (s .args .v) (s .args .q) (s .args .k) (s .args .w .now) (s .pre) (c .before .before .before .before .before .if1 .left) _ _ (c .before .before .before .tied .ensures) (c .if2 .taken)
+
+cast-w : tie.Need-cast-w
+cast-w c = search needs
+
+add-w : tie.Need-add-w
+add-w c = search needs
+
+mul-w : tie.Need-mul-w
+mul-w c = search needs
+
+slice-write-w : tie.Need-slice-write-w
+slice-write-w c = search needs
+
+cast-w-2 : tie.Need-cast-w-2
+cast-w-2 c = search needs
+
+add-w-2 : tie.Need-add-w-2
+add-w-2 c = search needs
+
+add-w-3 : tie.Need-add-w-3
+add-w-3 c = search needs
+
+mul-w-2 : tie.Need-mul-w-2
+mul-w-2 c = search needs
+
+slice-write-w-2 : tie.Need-slice-write-w-2
+slice-write-w-2 c = let s = c .before .before .before .before .before .before .before .before .before .before in simp length-set (omega (arith, k-low (graph (s .args .n) (s .args .sources .now) (s .args .targets .now)) (s .args .b) (s .args .v) (s .args .q) (s .args .k) (s .args .w .now) (s .pre) (c .before .before .before .before .before .if1 .left), s .pre .state .walking .long, c .before .before .before .tied .ensures .long))
+
+add-result : tie.Need-add-result
+add-result c = search needs
+
+same-length-2 : tie.Need-same-length-2
+same-length-2 c = search needs
+
+returns-3 : tie.Need-returns-3
+returns-3 c = let s = c .before .before .before .before .before .before .before .before .before .before in examine-go (graph (s .args .n) (s .args .sources .now) (s .args .targets .now)) (s .args .b) (s .args .v) (s .args .q) (s .args .k) (s .args .w .now) (s .pre) (c .before .before .before .before .before .if1 .left) _ _ (c .before .before .before .tied .ensures) (c .if2 .left)
+
+pub examine-spec : {M : Type 1} → statement M
+examine-spec =
+    tie.close
+    (tie.spec
+    add-if1
+    mul-if1
+    slice-read-if1
+    returns
+    tied-requires
+    same-length
+    returns-2
+    cast-w
+    add-w
+    mul-w
+    slice-write-w
+    cast-w-2
+    add-w-2
+    add-w-3
+    mul-w-2
+    slice-write-w-2
+    add-result
+    same-length-2
+    returns-3)

@@ -1,0 +1,24 @@
+use borrow.Author.Needs.{needs}
+use Rattle.graph.specs.Graph.{graph}
+use Rattle.trim.proofs.Aims.{trim-aim}
+use Rattle.trim.proofs.Core.{pass-ask, drain-ask, trim-all}
+use Rattle.trim.proofs.prune.prune.Statement.{statement}
+use Rattle.trim.proofs.prune.prune.Tie as tie
+
+aim-requires : tie.Need-aim-requires
+aim-requires c κs = let s = c .before .before .before .before in trim-aim (graph (s .args .n) (s .args .sources .now) (s .args .targets .now)) (s .args .b) (s .args .h) (s .args .q) (s .args .w .now) (s .pre)
+
+pass-requires : tie.Need-pass-requires
+pass-requires c κs = let s = c .before .before .before .before .before .before .before .before in pass-ask (graph (s .args .n) (s .args .sources .now) (s .args .targets .now)) (s .args .b) (s .args .h) (s .args .q) (s .args .w .now) (s .pre) _ (c .before .before .before .aim .ensures)
+
+drain-requires : tie.Need-drain-requires
+drain-requires c κs = let s = c .before .before .before .before .before .before .before .before .before .before .before .before in drain-ask (graph (s .args .n) (s .args .sources .now) (s .args .targets .now)) (s .args .b) (s .args .h) (s .args .q) (s .args .w .now) (s .pre) _ (c .before .before .before .before .before .before .before .aim .ensures) _ _ (c .before .before .before .pass .ensures)
+
+same-length : tie.Need-same-length
+same-length c = search needs
+
+returns : tie.Need-returns
+returns c = let s = c .before .before .before .before .before .before .before .before .before .before .before .before .before .before .before in trim-all (graph (s .args .n) (s .args .sources .now) (s .args .targets .now)) (s .args .b) (s .args .h) (s .args .q) (s .args .w .now) (s .pre) _ (c .before .before .before .before .before .before .before .before .before .before .aim .ensures) _ _ (c .before .before .before .before .before .before .pass .ensures) _ _ (c .before .before .drain .ensures)
+
+pub prune-spec : {M : Type 1} → statement M
+prune-spec = tie.close (tie.spec aim-requires pass-requires drain-requires same-length returns)
