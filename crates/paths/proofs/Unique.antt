@@ -1,0 +1,38 @@
+-- Two outcomes that the promise allows are equal: the answer and all memory lent.
+use Prim.Native.Nat.{ℕ}
+use mathlib.Core.Path.{_≡_, refl, sym, ap, _∙_}
+use mathlib.Core.Bool.{Bool, true, false}
+use mathlib.Core.List.{List, _++_}
+use lib.ListN.{drop}
+use lib.Dec.{leb}
+use Rattle.graph.specs.Limits.{wordsNeeded, noPath}
+use Rattle.graph.specs.Paths.{walk}
+use Rattle.graph.proofs.Memory.{zeroed-one}
+use Rattle.paths.specs.declared.Answer.{Answer}
+use Rattle.paths.specs.declared.Answer.the-variants.{Done, Refused}
+use Rattle.paths.specs.Promise.{Call, collection, numbersOf, Left, Promise}
+
+left-one : (b : Bool) (k : ℕ) (w x y : List ℕ) → Left b k w x → Left b k w y → x ≡ y
+left-one true k w x y p q = zeroed-one p q
+left-one false k w x y p q = p ∙ sym q
+
+pub path-one : (c : Call) (r w x r' w' x' : List ℕ) (a a' : Answer) → Promise c r w x a → Promise c r' w' x' a'
+    → (a ≡ a') × (r ≡ r') × (w ≡ w') × (x ≡ x')
+path-one c r w x r' w' x' (Done d) (Done d') p q =
+    let e : d ≡ d' = p .shortest ∙ sym (q .shortest) in (
+      ap Done e,
+      p .written ∙ ap (λ (d : ℕ). walk (collection c) (c .u) d (c .v) ++ drop d (c .room)) e ∙ sym (q .written),
+      zeroed-one (p .numbers-left) (q .numbers-left),
+      zeroed-one (p .words-left) (q .words-left),
+    )
+path-one c r w x r' w' x' (Done d) (Refused k) p q = absurd (q .some (sym (q .applies) ∙ p .none))
+path-one c r w x r' w' x' (Refused k) (Done d) p q = absurd (p .some (sym (p .applies) ∙ q .none))
+path-one c r w x r' w' x' (Refused k) (Refused k') p q =
+    let e : k ≡ k' = sym (p .applies) ∙ q .applies in
+    let m : Left (leb noPath k) (numbersOf c) (c .numbers) w' = rw e (q .numbers-left) in
+    let n : Left (leb noPath k) (wordsNeeded (c .n)) (c .words) x' = rw e (q .words-left) in (
+      ap Refused e,
+      p .room-same ∙ sym (q .room-same),
+      left-one (leb noPath k) (numbersOf c) (c .numbers) w w' (p .numbers-left) m,
+      left-one (leb noPath k) (wordsNeeded (c .n)) (c .words) x x' (p .words-left) n,
+    )

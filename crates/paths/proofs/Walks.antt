@@ -1,0 +1,357 @@
+-- Distances as colours, and the walk back along them.
+use Prim.Native.Nat.{ℕ, zero, suc, _+_, _-_, _*_, _≤_, _<_}
+use native.Mathlib.Omega.{arith}
+use native.Mathlib.Decide.{ℕ-discrete, decLt}
+use mathlib.Core.Path.{_≡_, refl, sym, ap, subst, _∙_}
+use mathlib.Core.Logic.{_⊎_, inl, inr, ⊎-elim}
+use mathlib.Core.Bool.{true}
+use mathlib.Core.List.{List, [], _∷_, _++_, append-assoc}
+use lib.ListN.{length, getD, set, drop, length-set, length-append, length-drop, List·getD-append}
+use lib.Seq.{getD-set-same, getD-set-other, getD-append-add, getD-drop, ext-getD}
+use Rattle.graph.specs.Graph.{Graph, Valid, Edge, Chain, Reach, all, edges, from, to}
+use Rattle.graph.specs.Parts.{only}
+use Rattle.graph.specs.Limits.{mostVertices, mostEdges, noPath, roomShort}
+use Rattle.graph.specs.Certificate.{IsDist, distOf}
+use Rattle.graph.specs.Paths.{nearer, walk}
+use Rattle.graph.specs.Memory.{Framed}
+use Rattle.graph.proofs.Lent.{cat-high}
+use Rattle.graph.proofs.Memory.{framed-none}
+use Rattle.graph.proofs.Chains.{chain-wider, valid-rev, edge-from-low}
+use Rattle.graph.proofs.Distance.{dist-is, dist-low, dist-unique, dist-reached}
+use Rattle.graph.proofs.Nearer.{has-nearer, nearer-is}
+use Rattle.graph.proofs.Paths.{walk-length}
+use Rattle.index.specs.Index.{start, Indexed}
+use Rattle.index.specs.Build.{Column, BothAsk, Both}
+use Rattle.index.proofs.Counts.{start-mono, start-all}
+use Rattle.index.proofs.Moved.{indexed-kept}
+use Rattle.paint.specs.Colours.{col, Kept}
+use Rattle.paint.specs.Paint.{other, Laid}
+use Rattle.paint.specs.Distances.{Nearest, Measured, Has, MeasureAsk}
+use Rattle.paint.proofs.Spreading.{low-chain}
+use Rattle.paths.specs.Walk.{Filled, reverse, base, FindAsk, Known, Prepared, FirstAsk, First, WalkAsk, Walked, SettleAsk}
+
+-- EVERY VERTEX GETS ONE COLOUR
+-- the first v vertices have it
+pub record Filling (b n a : ℕ) (w₀ : List ℕ) (v : ℕ) (w : List ℕ) : Type 0 where
+  pub each : (x : ℕ) → x < v → col b w x ≡ a
+  pub frame : Framed b (b + n) w₀ w
+
+module _ (b n a : ℕ) (w₀ : List ℕ) (fits : b + n ≤ length w₀) where
+  pub fill-none : Filling b n a w₀ 0 w₀
+  fill-none = record { each = λ x l. absurd (omega arith); frame = framed-none b (b + n) w₀ }
+
+  pub fill-step : (v : ℕ) (w : List ℕ) → v < n → Filling b n a w₀ v w → Filling b n a w₀ (v + 1) (set w (b + v) a)
+  fill-step v w l z = record {
+    each = λ x h. elim (ℕ-discrete x v) as (λ _. col b (set w (b + v) a) x ≡ a) [
+      | yes e ↦ rw e (getD-set-same w (b + v) a 0 (omega (arith, z .frame .long)))
+      | no e ↦ getD-set-other w (b + v) (b + x) a 0 (omega arith) ∙ z .each x (omega arith)
+    ];
+    frame = record {
+      long = length-set w (b + v) a ∙ z .frame .long;
+      low = λ j h. getD-set-other w (b + v) j a 0 (omega arith) ∙ z .frame .low j h;
+      high = λ j h. getD-set-other w (b + v) j a 0 (omega arith) ∙ z .frame .high j h;
+    };
+  }
+
+-- THE DISTANCES
+module _ (g : Graph) (u : ℕ) (w : List ℕ) (counts : (e : ℕ) → g .counted e ≡ true) (a : FindAsk g u w) where
+  pub both-ask : BothAsk (g .src) (g .tgt) (g .n) w
+  both-ask = record {
+    forward = record { below = a .valid .from-low; small = omega (arith, a .small); few = omega (arith, a .few) };
+    reverse = record { below = valid-rev (a .valid) .from-low; small = omega (arith, a .small); few = omega (arith, a .few, a .valid .same) };
+    even = a .valid .same;
+    room = omega (arith, a .room);
+  }
+
+  module _ (w₁ : List ℕ) (x : Both (g .src) (g .tgt) (g .n) w w₁) where
+    pub fill-room : base g + g .n ≤ length w₁
+    fill-room = omega (arith, a .room, x .long)
+
+    module _ (w₂ : List ℕ) (y : Filled (base g) (g .n) (g .n + 1) w₁ w₂) where
+      pub measure-ask : MeasureAsk g (g .n + 1) 0 (base g) u w₂
+      measure-ask = record {
+        laid = record {
+          valid = a .valid;
+          counts = counts;
+          few = a .few;
+          below = omega arith;
+          index = indexed-kept (g .src) (g .n) 0 w₁ w₂ (a .valid .from-low) (λ j h q. y .frame .low j (omega arith)) (x .forward);
+        };
+        small = a .small;
+        fits = omega (arith, a .room, x .long, y .frame .long);
+        far = omega arith;
+        start = a .start;
+      }
+
+      -- within the table every chain has the one colour
+      every : {h v : ℕ} → Chain g all h u v → Chain g (Has (g .n + 1) (base g) w₂) h u v
+      every c = chain-wider {g = g} {P = λ v. (v < g .n) × all v} {Q = Has (g .n + 1) (base g) w₂} (λ v t. y .each v (t .0)) (low-chain (a .valid) (a .start) c)
+
+      pub find-all : (w₃ : List ℕ) (k : ℕ) → Measured g (base g) (Has (g .n + 1) (base g) w₂) (only u) w₂ w₃ k → Prepared g u w w₃
+      find-all w₃ k z = record {
+        long = z .kept .long ∙ y .frame .long ∙ x .long;
+        high = λ j h. z .kept .high j h ∙ y .frame .high j (omega arith) ∙ x .rest j (omega arith);
+        known = record {
+          valid = a .valid;
+          counts = counts;
+          small = a .small;
+          few = a .few;
+          start = a .start;
+          room = omega (arith, a .room, x .long, y .frame .long, z .kept .long);
+          index = indexed-kept (g .tgt) (g .n) (reverse g) w₁ w₃ (valid-rev (a .valid) .from-low)
+              (λ j h q. z .kept .low j (omega (arith, a .valid .same)) ∙ y .frame .low j (omega (arith, a .valid .same))) (x .reverse);
+          near = λ v l h. let r = dist-reached (a .valid) u v (a .start) l .0 h in ⊎-elim
+              (λ t. dist-unique (is v t) (dist-is (a .valid) u v (a .start) l r))
+              (λ t. absurd (t .0 (u, refl, (r .0, every (r .1)))))
+              (z .each v l);
+          far = λ v l h. ⊎-elim
+              (λ t. absurd (omega (arith, h, dist-low (a .valid) u v (a .start) l (col (base g) w₃ v, is v t .chain))))
+              (λ t. omega (arith, t .1, y .each v l))
+              (z .each v l);
+        };
+      }
+        where
+          is : (v : ℕ) → Nearest g (Has (g .n + 1) (base g) w₂) (only u) v (col (base g) w₃ v) → IsDist g u v (col (base g) w₃ v)
+          is v t =
+              let (x, q, c) = t .chain in
+              let c' : Chain g all (col (base g) w₃ v) x v = chain-wider {g = g} {P = Has (g .n + 1) (base g) w₂} {Q = all} (λ v _. tt) c in
+              record { chain = rw q c'; shortest = λ h c. t .shortest u h refl (every c) }
+
+-- THE FIRST EDGE THAT FITS
+module _ (sources w : List ℕ) (eb b d i₀ t : ℕ) where
+  -- none of the places before i fits
+  pub record Passing (i : ℕ) : Type 0 where
+    pub low : i₀ ≤ i
+    pub high : i ≤ t
+    pub before : (j : ℕ) → i₀ ≤ j → j < i → col b w (other w eb sources j) ≡ d → ⊥
+
+  pub pass-step : (i : ℕ) → i < t → (col b w (other w eb sources i) ≡ d → ⊥) → Passing i → Passing (i + 1)
+  pass-step i l o z = record {
+    low = omega (arith, z .low);
+    high = omega arith;
+    before = λ j h q. elim (ℕ-discrete j i) as (λ _. col b w (other w eb sources j) ≡ d → ⊥) [ yes e ↦ rw e o | no e ↦ z .before j h (omega arith) ];
+  }
+
+-- BACK FROM V
+-- the walk has come to x, d steps from u; the rest of the path is written
+pub record Walking (g : Graph) (u v d₀ : ℕ) (r₀ : List ℕ) (x d : ℕ) (r : List ℕ) : Type 0 where
+  pub vertex : x < g .n
+  pub is : distOf g u x ≡ d
+  pub most : d ≤ d₀
+  pub rest : (es : List ℕ) × (walk g u d₀ v ≡ walk g u d x ++ es)
+  pub long : length r ≡ length r₀
+  pub written : (i : ℕ) → d ≤ i → i < d₀ → getD r i 0 ≡ getD (walk g u d₀ v) i 0
+  pub kept : (i : ℕ) → d₀ ≤ i → getD r i 0 ≡ getD r₀ i 0
+
+-- what a turn reads
+pub record Turn (g : Graph) (w : List ℕ) (x : ℕ) : Type 0 where
+  pub vertex : x < g .n
+  pub begins : getD w (reverse g + x) 0 ≡ start (g .tgt) x
+  pub ends : getD w (reverse g + x + 1) 0 ≡ start (g .tgt) (suc x)
+  pub order : start (g .tgt) x ≤ start (g .tgt) (suc x)
+  pub last : start (g .tgt) (suc x) ≤ edges g
+  pub room : base g + g .n ≤ length w
+  pub small : g .n ≤ mostVertices
+  pub few : edges g ≤ mostEdges
+
+module _ (g : Graph) (u v d₀ : ℕ) (w r₀ : List ℕ) (a : WalkAsk g u v d₀ w r₀) where
+  pub walk-none : Walking g u v d₀ r₀ v d₀ r₀
+  walk-none = record {
+    vertex = a .vertex;
+    is = a .is;
+    most = omega arith;
+    rest = ([], sym (append-nil (walk g u d₀ v)));
+    long = refl;
+    written = λ i h q. absurd (omega arith);
+    kept = λ i h. refl;
+  }
+    where
+      append-nil : (l : List ℕ) → l ++ [] ≡ l
+      append-nil [] = refl
+      append-nil (x ∷ l) = ap (λ (t : List ℕ). x ∷ t) (append-nil l)
+
+  abbrev k : Known g u w
+  k = a .known
+
+  module _ (x d : ℕ) (r : List ℕ) (z : Walking g u v d₀ r₀ x (suc d) r) where
+    pub turn : Turn g w x
+    turn = record {
+      vertex = z .vertex;
+      begins = k .index .offs x (omega (arith, z .vertex));
+      ends = ap (λ (j : ℕ). getD w j 0) (omega arith) ∙ k .index .offs (suc x) (z .vertex);
+      order = start-mono (g .tgt) x (suc x) (omega arith);
+      last = omega (arith, start-mono (g .tgt) (suc x) (g .n) (z .vertex), start-all (g .tgt) (g .n) (valid-rev (k .valid) .from-low), k .valid .same);
+      room = k .room;
+      small = k .small;
+      few = k .few;
+    }
+
+    abbrev eb : ℕ
+    eb = reverse g + g .n + 1
+
+    -- the edge at a place of x
+    placed : (j : ℕ) → start (g .tgt) x ≤ j → j < start (g .tgt) (suc x) → Edge g (getD w (eb + j) 0) (other w eb (g .src) j) x
+    placed j l t =
+        let y = k .index .ended x j (z .vertex) (omega (arith, turn .begins)) (omega (arith, k .index .offs (suc x) (z .vertex))) in
+        record { low = omega (arith, y .0, k .valid .same); counts = rw (k .counts (getD w (eb + j) 0)) tt; leaves = refl; enters = y .1 }
+
+    own-ask : FirstAsk (g .src) w eb (base g) (start (g .tgt) x) (start (g .tgt) (suc x))
+    own-ask = record {
+      order = turn .order;
+      fits = omega (arith, turn .last, k .room);
+      edges = λ j l t. placed j l t .low;
+      ends = λ j l t. omega (arith, edge-from-low (k .valid) (placed j l t), k .room);
+    }
+
+    pub turn-ask : FirstAsk (g .src) w (reverse g + g .n + 1) (base g) (getD w (reverse g + x) 0) (getD w (reverse g + x + 1) 0)
+    turn-ask = rw (turn .begins, turn .ends) own-ask
+
+    low-d : d < g .n
+    low-d = omega (arith, z .most, a .low)
+
+    -- a colour that is d is the distance
+    col-dist : (y : ℕ) → y < g .n → col (base g) w y ≡ d → distOf g u y ≡ d
+    col-dist y l q = elim (decLt (distOf g u y) (g .n)) as (λ _. distOf g u y ≡ d) [
+      | yes h ↦ sym (k .near y l h) ∙ q
+      | no h ↦ absurd (omega (arith, k .far y l (omega arith), q, low-d))
+    ]
+
+    dist-col : (y : ℕ) → y < g .n → distOf g u y ≡ d → col (base g) w y ≡ d
+    dist-col y l q = k .near y l (omega (arith, q, low-d)) ∙ q
+
+    -- the place of an edge that enters x
+    place-of : (e y : ℕ) → Edge g e y x → (j : ℕ) × (start (g .tgt) x ≤ j) × (j < start (g .tgt) (suc x)) × (getD w (eb + j) 0 ≡ e)
+    place-of e y t =
+        let s = k .index .all e (omega (arith, t .low, k .valid .same)) in
+        let q : to g e ≡ x = t .enters in (
+          s .0,
+          omega (arith, s .1, k .index .offs (to g e) (omega (arith, q, z .vertex)), ap (start (g .tgt)) q),
+          omega (arith, s .2, k .index .offs (suc (to g e)) (omega (arith, q, z .vertex)), ap (λ (y : ℕ). start (g .tgt) (suc y)) q),
+          s .3,
+        )
+
+    module _ (i : ℕ) (f : First (g .src) w (reverse g + g .n + 1) (base g) d (start (g .tgt) x) (start (g .tgt) (suc x)) i) where
+      -- an edge that fits does not stand before place i
+      not-before : (e y : ℕ) → Edge g e y x → distOf g u y ≡ d → (j : ℕ) × (i ≤ j) × (j < start (g .tgt) (suc x)) × (getD w (eb + j) 0 ≡ e)
+      not-before e y t q =
+          let (j, l, h, p) = place-of e y t in
+          elim (decLt j i) as (λ _. (j : ℕ) × (i ≤ j) × (j < start (g .tgt) (suc x)) × (getD w (eb + j) 0 ≡ e)) [
+            | yes b ↦
+                let s : other w eb (g .src) j ≡ y = ap (λ (e : ℕ). getD (g .src) e 0) p ∙ t .leaves in
+                absurd (f .before j l b (ap (col (base g) w) s ∙ dist-col y (edge-from-low (k .valid) t) q))
+            | no b ↦ (j, omega arith, h, p)
+          ]
+
+      found : i < start (g .tgt) (suc x)
+      found =
+          let (e, y, t, q) = has-nearer (k .valid) u (k .start) d x (z .vertex) (z .is) (omega (arith, z .most, a .low)) in
+          let (j, l, h, p) = not-before e y t q in
+          omega arith
+
+      own : Edge g (getD w (eb + i) 0) (other w eb (g .src) i) x
+      own = placed i (f .low) found
+
+      is-nearer : getD w (eb + i) 0 ≡ nearer g u d x
+      is-nearer = nearer-is (k .valid) u (k .start) d x (getD w (eb + i) 0) (other w eb (g .src) i) own
+          (col-dist (other w eb (g .src) i) (edge-from-low (k .valid) own) (f .here found))
+          (λ e y l t q.
+          let (j, b, h, p) = not-before e y t q in
+          elim (ℕ-discrete i j) as (λ _. ⊥) [
+            | yes s ↦ omega (arith, p, ap (λ (j : ℕ). getD w (eb + j) 0) s)
+            | no s ↦ omega (arith, p, k .index .rising x i j (z .vertex) (omega (arith, turn .begins, f .low)) (omega arith) (omega (arith, k .index .offs (suc x) (z .vertex))))
+          ])
+
+      own-step : Walking g u v d₀ r₀ (other w eb (g .src) i) d (set r d (getD w (eb + i) 0))
+      unfolding walk
+      own-step =
+          let e = getD w (eb + i) 0 in
+          let y = other w eb (g .src) i in
+          let one : walk g u (suc d) x ≡ walk g u d y ++ (e ∷ []) = ap (λ (e : ℕ). walk g u d (from g e) ++ (e ∷ [])) (sym is-nearer) in
+          let all-of : walk g u d₀ v ≡ walk g u d y ++ (e ∷ z .rest .0) =
+          z .rest .1 ∙ ap (λ (l : List ℕ). l ++ z .rest .0) one ∙ append-assoc (walk g u d y) (e ∷ []) (z .rest .0) in
+          let n-long : length (walk g u d y) ≡ d = walk-length (k .valid) u (k .start) d y in
+          let none-left : d - length (walk g u d y) ≡ 0 = omega (arith, n-long) in
+          let at-d : getD (walk g u d₀ v) d 0 ≡ e =
+          ap (λ (l : List ℕ). getD l d 0) all-of ∙ cat-high (walk g u d y) (e ∷ z .rest .0) d (omega (arith, n-long))
+          ∙ ap (λ (j : ℕ). getD (e ∷ z .rest .0) j 0) none-left in
+          record {
+            vertex = edge-from-low (k .valid) own;
+            is = col-dist y (edge-from-low (k .valid) own) (f .here found);
+            most = omega (arith, z .most);
+            rest = (e ∷ z .rest .0, all-of);
+            long = length-set r d e ∙ z .long;
+            written = λ j h q. elim (ℕ-discrete j d) as (λ _. getD (set r d e) j 0 ≡ getD (walk g u d₀ v) j 0) [
+              | yes s ↦ rw s (getD-set-same r d e 0 (omega (arith, z .long, z .most, a .fits)) ∙ sym at-d)
+              | no s ↦ getD-set-other r d j e 0 (omega arith) ∙ z .written j (omega arith) q
+            ];
+            kept = λ j h. getD-set-other r d j e 0 (omega (arith, z .most)) ∙ z .kept j h;
+          }
+
+    module _ (i : ℕ) (f : First (g .src) w (reverse g + g .n + 1) (base g) d (getD w (reverse g + x) 0) (getD w (reverse g + x + 1) 0) i) where
+      same-first : First (g .src) w (reverse g + g .n + 1) (base g) d (start (g .tgt) x) (start (g .tgt) (suc x)) i
+      same-first = rw (turn .begins, turn .ends) at f
+
+      -- the edge stands in the index, and comes from a vertex
+      pub edge-place : i < edges g
+      edge-place = omega (arith, found i same-first, turn .last)
+
+      pub edge-low : getD w (reverse g + g .n + 1 + i) 0 < edges g
+      edge-low = own i same-first .low
+
+      pub source-low : other w (reverse g + g .n + 1) (g .src) i < g .n
+      source-low = edge-from-low (k .valid) (own i same-first)
+
+      pub walk-step : Walking g u v d₀ r₀ (other w (reverse g + g .n + 1) (g .src) i) d (set r d (getD w (reverse g + g .n + 1 + i) 0))
+      walk-step = own-step i same-first
+
+  pub walk-all : (x : ℕ) (r : List ℕ) → Walking g u v d₀ r₀ x 0 r → Walked g u v d₀ r₀ r
+  walk-all x r z =
+      let p = walk g u d₀ v in
+      let l : length p ≡ d₀ = walk-length (k .valid) u (k .start) d₀ v in
+      ext-getD 0 r (p ++ drop d₀ r₀) (omega (arith, z .long, length-append p (drop d₀ r₀), length-drop d₀ r₀, a .fits))
+      (λ i h. elim (decLt i d₀) as (λ _. getD r i 0 ≡ getD (p ++ drop d₀ r₀) i 0) [
+        | yes q ↦ z .written i (omega arith) q ∙ sym (List·getD-append p (drop d₀ r₀) 0 i (omega arith))
+        | no q ↦ z .kept i (omega arith) ∙ sym (cat-high p (drop d₀ r₀) i (omega arith) ∙ getD-drop d₀ r₀ (i - length p) 0 ∙ ap (λ (j : ℕ). getD r₀ j 0) (omega arith))
+      ])
+
+-- what the colour of v says of its distance
+module _ {g : Graph} {u v : ℕ} {w : List ℕ} (a : SettleAsk g u v w) where
+  pub far-none : g .n ≤ col (base g) w v → g .n ≤ distOf g u v
+  far-none h = elim (decLt (distOf g u v) (g .n)) as (λ _. g .n ≤ distOf g u v) [
+    | yes q ↦ absurd (omega (arith, a .known .near v (a .vertex) q))
+    | no q ↦ omega arith
+  ]
+
+  pub near-is : col (base g) w v < g .n → distOf g u v ≡ col (base g) w v
+  near-is h = elim (decLt (distOf g u v) (g .n)) as (λ _. distOf g u v ≡ col (base g) w v) [
+    | yes q ↦ sym (a .known .near v (a .vertex) q)
+    | no q ↦ absurd (omega (arith, a .known .far v (a .vertex) (omega arith)))
+  ]
+
+-- a turn of the loop, which counts d down
+module _ (g : Graph) (u v d₀ : ℕ) (w r₀ : List ℕ) (a : WalkAsk g u v d₀ w r₀) (x d : ℕ) (r : List ℕ) (h : 0 < d) (z : Walking g u v d₀ r₀ x d r) where
+  down : Walking g u v d₀ r₀ x (suc (d - 1)) r
+  down = let e : d ≡ suc (d - 1) = omega arith in subst (λ (y : ℕ). Walking g u v d₀ r₀ x y r) e z
+
+  pub back-turn : Turn g w x
+  back-turn = turn g u v d₀ w r₀ a x (d - 1) r down
+
+  pub back-ask : FirstAsk (g .src) w (reverse g + g .n + 1) (base g) (getD w (reverse g + x) 0) (getD w (reverse g + x + 1) 0)
+  back-ask = turn-ask g u v d₀ w r₀ a x (d - 1) r down
+
+  module _ (i : ℕ) (f : First (g .src) w (reverse g + g .n + 1) (base g) (d - 1) (getD w (reverse g + x) 0) (getD w (reverse g + x + 1) 0) i) where
+    pub back-place : i < edges g
+    back-place = edge-place g u v d₀ w r₀ a x (d - 1) r down i f
+
+    pub back-edge : getD w (reverse g + g .n + 1 + i) 0 < edges g
+    back-edge = edge-low g u v d₀ w r₀ a x (d - 1) r down i f
+
+    pub back-source : other w (reverse g + g .n + 1) (g .src) i < g .n
+    back-source = source-low g u v d₀ w r₀ a x (d - 1) r down i f
+
+    pub back-step : Walking g u v d₀ r₀ (other w (reverse g + g .n + 1) (g .src) i) (d - 1) (set r (d - 1) (getD w (reverse g + g .n + 1 + i) 0))
+    back-step = walk-step g u v d₀ w r₀ a x (d - 1) r down i f
+
+pub walked-long : (g : Graph) (u v d : ℕ) (w room room' : List ℕ) → WalkAsk g u v d w room → Walked g u v d room room' → length room' ≡ length room
+walked-long g u v d w room room' a z =
+    omega (arith, ap length z, length-append (walk g u d v) (drop d room), length-drop d room, walk-length (a .known .valid) u (a .known .start) d v, a .fits)

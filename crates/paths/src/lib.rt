@@ -1,0 +1,69 @@
+// The shortest path from u to v, as edge numbers in walking order.
+ghost use mathlib.Core.Path.{_≡_};
+ghost use lib.ListN.{length};
+ghost use Rattle.paths.specs.Promise.{Call, askRefusal, Promise};
+use graph::limits;
+use graph::table;
+use index::memory;
+
+pub mod walk;
+
+pub enum Answer {
+    Done { length: usize },
+    Refused(u32),
+}
+
+// The number of the first refusal that applies before the search, or 0; x numbers and y words are lent.
+fn refusal(
+    n: usize,
+    sources: &[u32],
+    targets: &[u32],
+    u: usize,
+    v: usize,
+    x: usize,
+    y: usize,
+) -> u32
+    ensures { λ k. ⌜ k ≡ askRefusal n (now (sources .entry)) (now (targets .entry)) u v x y ⌝ }
+{
+    let k = table::check(n, sources, targets);
+    if k != 0 {
+        return k;
+    }
+    if x < 12 * n + 2 * sources.len() + 16 {
+        return limits::MEMORY_SHORT;
+    }
+    if y < 6 * ((n + 63) / 64) {
+        return limits::MEMORY_SHORT;
+    }
+    if n <= u {
+        return limits::VERTEX_OUTSIDE;
+    }
+    if n <= v {
+        return limits::VERTEX_OUTSIDE;
+    }
+    0
+}
+
+// The shortest path from u to v in the front of the room: among several the one that walks back from v by the smallest edges.
+pub fn path(
+    n: usize,
+    sources: &[u32],
+    targets: &[u32],
+    u: usize,
+    v: usize,
+    room: &mut [u32],
+    numbers: &mut [u32],
+    words: &mut [u64],
+) -> Answer
+    ensures { λ a. ⌜ Promise (record { n = n; sources = now (sources .entry); targets = now (targets .entry); u = u; v = v; room = now (room .entry); numbers = now (numbers .entry); words = now (words .entry) }) (now (room .exit)) (now (numbers .exit)) (now (words .exit)) a ⌝ }
+{
+    let no = refusal(n, sources, targets, u, v, numbers.len(), words.len());
+    if no != 0 {
+        return Answer::Refused(no);
+    }
+    walk::find(n, sources, targets, u, numbers);
+    let answer = walk::settle(n, sources, targets, u, v, numbers, room);
+    memory::zero_numbers(numbers, 12 * n + 2 * sources.len() + 16);
+    memory::zero_words(words, 6 * ((n + 63) / 64));
+    answer
+}

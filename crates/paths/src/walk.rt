@@ -1,0 +1,104 @@
+// Distances from u by levels, and the walk back from v along them.
+ghost use Prim.Native.Nat.{_+_, _≤_};
+ghost use lib.ListN.{length};
+ghost use Rattle.graph.specs.Graph.{graph};
+ghost use Rattle.paths.specs.Walk.{Filled, FindAsk, Prepared, FirstAsk, First, WalkAsk, Walked, SettleAsk, Settled};
+use crate::Answer;
+use graph::limits;
+use index::build;
+use paint::distances;
+
+// Every vertex gets the colour a.
+fn fill(w: &mut [u32], b: usize, n: usize, a: u32)
+    requires { ⌜ b + n ≤ length (now w) ⌝ }
+    ensures { λ _. ⌜ Filled b n a (now (w .entry)) (now (w .exit)) ⌝ }
+{
+    let mut v = 0;
+    while v < n {
+        w[b + v] = a;
+        v += 1;
+    }
+}
+
+// Both indexes, and behind them as colours the distances from u: n + 1 is no distance.
+pub fn find(n: usize, sources: &[u32], targets: &[u32], u: usize, w: &mut [u32])
+    requires { ⌜ FindAsk (graph n (now sources) (now targets)) u (now w) ⌝ }
+    ensures { λ _. ⌜ Prepared (graph n (now (sources .entry)) (now (targets .entry))) u (now (w .entry)) (now (w .exit)) ⌝ }
+{
+    build::both(sources, targets, n, w);
+    let b = 2 * (n + 1 + sources.len());
+    let far = (n + 1) as u32;
+    fill(w, b, n, far);
+    distances::measure(sources, targets, n, w, 0, b, u, far);
+}
+
+// The first of the places i0 .. t - 1 whose edge comes from a vertex of the colour d, or t.
+fn first(sources: &[u32], w: &[u32], eb: usize, b: usize, i0: usize, t: usize, d: usize) -> usize
+    requires { ⌜ FirstAsk (now sources) (now w) eb b i0 t ⌝ }
+    ensures { λ r. ⌜ First (now (sources .entry)) (now (w .entry)) eb b d i0 t r ⌝ }
+{
+    let mut i = i0;
+    while i < t {
+        let e = w[eb + i] as usize;
+        let x = sources[e] as usize;
+        let y = w[b + x] as usize;
+        if y == d {
+            return i;
+        }
+        i += 1;
+    }
+    i
+}
+
+// Back from v, each time by the smallest edge from one step nearer; the reverse index has a vertex's edges in rising order.
+fn back(
+    n: usize,
+    sources: &[u32],
+    targets: &[u32],
+    u: usize,
+    v: usize,
+    w: &[u32],
+    d0: usize,
+    room: &mut [u32],
+)
+    requires { ⌜ WalkAsk (graph n (now sources) (now targets)) u v d0 (now w) (now room) ⌝ }
+    ensures { λ _. ⌜ Walked (graph n (now (sources .entry)) (now (targets .entry))) u v d0 (now (room .entry)) (now (room .exit)) ⌝ }
+{
+    let rx = n + 1 + sources.len();
+    let eb = rx + n + 1;
+    let mut x = v;
+    let mut d = d0;
+    while 0 < d {
+        d -= 1;
+        let s = w[rx + x] as usize;
+        let t = w[rx + x + 1] as usize;
+        let i = first(sources, w, eb, 2 * rx, s, t, d);
+        let e = w[eb + i];
+        room[d] = e;
+        x = sources[e as usize] as usize;
+    }
+}
+
+// The answer from the distances: 11, 12, or the path.
+pub fn settle(
+    n: usize,
+    sources: &[u32],
+    targets: &[u32],
+    u: usize,
+    v: usize,
+    w: &[u32],
+    room: &mut [u32],
+) -> Answer
+    requires { ⌜ SettleAsk (graph n (now sources) (now targets)) u v (now w) ⌝ }
+    ensures { λ a. ⌜ Settled (graph n (now (sources .entry)) (now (targets .entry))) u v (now (room .entry)) (now (room .exit)) a ⌝ }
+{
+    let d = w[2 * (n + 1 + sources.len()) + v] as usize;
+    if n <= d {
+        return Answer::Refused(limits::NO_PATH);
+    }
+    if room.len() < d {
+        return Answer::Refused(limits::ROOM_SHORT);
+    }
+    back(n, sources, targets, u, v, w, d, room);
+    Answer::Done { length: d }
+}
