@@ -51,7 +51,7 @@ abbrev pub number : Answer → ℕ
 number (Done vertices edges) = 0
 number (Refused k) = k
 
--- done: the set, its size, the number of edges that leave it (backward: enter it), and the working memory
+-- done: the set, its size, the number of edges whose source (backward: target) was reached, and the working memory
 pub record Finished (c : Call) (backward : Bool) (r w ws : List ℕ) (k e : ℕ) : Type 0 where
   pub long : length r ≡ length (c .reached)
   pub sound : (v : ℕ) → bit r v ≡ 1 → Reached c backward v

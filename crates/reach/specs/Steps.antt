@@ -75,7 +75,7 @@ pub record RunAsk (g : Graph) (starts permitted w r : List ℕ) : Type 0 where
   pub room : 3 * g .n + 1 + edges g ≤ length w
   pub sets : ChooseAsk (g .n) starts permitted r
 
--- The set r' is what the starts reach within the permitted set, and `seen` the number of edges that leave it.
+-- The set r' is what the starts reach within the permitted set, and `seen` the number of edges whose source is in it.
 pub record Found (g : Graph) (starts permitted w r w' r' : List ℕ) (seen : ℕ) : Type 0 where
   pub long : length r' ≡ length r
   pub sound : (v : ℕ) → bit r' v ≡ 1 → Fwd g (Members (g .n) permitted) (Members (g .n) starts) v

@@ -8,7 +8,7 @@ use graph::limits;
 use graph::table;
 use index::memory;
 
-// What a search answers: the number of vertices reached and of edges looked at, or the number by which it refuses.
+// What a search answers: how many vertices it reached and how many edges it looked at, or the number by which it refuses.
 pub enum Answer {
     Done { vertices: usize, edges: usize },
     Refused(u32),
@@ -50,7 +50,8 @@ fn refusal(
     0
 }
 
-// The set of permitted vertices reached from permitted starts by chains that stay permitted, its size, and the number of edges that leave it (backward: enter it).
+// The set of permitted vertices reached from permitted starts by chains that stay permitted, its size,
+// and the number of edges whose source (backward: target) was reached.
 pub fn search(
     n: usize,
     sources: &[u32],

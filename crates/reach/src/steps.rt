@@ -4,7 +4,12 @@ ghost use Rattle.reach.specs.Steps.{ColourAsk, Coloured, ChooseAsk, Chos
 use index::build;
 use index::memory;
 
-// Each vertex is coloured 1 if it is permitted, 0 if not; the colours stand in w from b on.
+// The colours: a permitted vertex becomes a reached one; 0 is not permitted.
+const PERMITTED: u32 = 1;
+
+const REACHED: u32 = 2;
+
+// The colour of a vertex is its bit in the permitted set; the colours stand in w from b on.
 fn colour(n: usize, permitted: &[u64], w: &mut [u32], b: usize)
     requires { ⌜ ColourAsk n b (now permitted) (now w) ⌝ }
     ensures { λ _. ⌜ Coloured n b (now (permitted .entry)) (now (w .entry)) (now (w .exit)) ⌝ }
@@ -35,7 +40,7 @@ fn begin_one(n: usize, r: &[u64], w: &mut [u32], b: usize, x: usize, k: usize) -
     if sets::has(r, x) == 0 {
         return k;
     }
-    paint::visit(n, w, b, x, 1, 2, 1, 2, k)
+    paint::visit(n, w, b, x, PERMITTED, REACHED, PERMITTED, REACHED, k)
 }
 
 // The members of the set are painted and queued. The queue's length.
@@ -83,7 +88,19 @@ fn run(
     colour(n, permitted, w, b);
     choose(n, starts, permitted, r);
     let k = begin(n, r, w, b);
-    let s = paint::spread(from, to, n, w, 0, b, 1, 2, 1, 2, k);
+    let s = paint::spread(
+        from,
+        to,
+        n,
+        w,
+        0,
+        b,
+        PERMITTED,
+        REACHED,
+        PERMITTED,
+        REACHED,
+        k,
+    );
     gather(w, b + n, s.k, r);
     s.edges
 }
