@@ -1,11 +1,9 @@
 -- Numbers found word by word are the numbers of the line.
-use Prim.Native.Nat.{ℕ, suc, _+_, _-_, _≤_, _<_}
+use Prim.Native.Nat.{ℕ, _+_, _-_, _≤_, _<_}
 use native.Mathlib.Omega.{arith}
 use mathlib.Core.Path.{_≡_, refl, sym, _∙_, ap}
-use mathlib.Core.Bool.{Bool, true, false, cond}
 use mathlib.Core.List.{List, [], _∷_, _++_, append-nil, append-assoc}
-use lib.ListN.{length, getD, take, drop, length-append}
-use lib.Seq.{append-snoc}
+use lib.ListN.{length, take, drop, length-append}
 use borrow.Author.Tests.{le-ltb, lt-ltb}
 use Rattle.lines.specs.declared.numbers.Found.{Found}
 use Rattle.lines.specs.declared.numbers.Row.{Row}

@@ -1,6 +1,6 @@
 -- The numbers of a line.
 use Prim.Native.Nat.{ℕ, _+_, _*_, _-_}
-use mathlib.Core.Bool.{Bool, true, false, cond, _&&_}
+use mathlib.Core.Bool.{Bool, true, cond, _&&_}
 use mathlib.Core.List.{List, [], _∷_}
 use lib.Dec.{leb, ltb}
 use lib.ListN.{length}

@@ -1,9 +1,9 @@
 -- A text in pieces, each ended by one byte. The last may lack it, and nothing stands after a final one.
 use Prim.Native.Nat.{ℕ, suc, _+_}
-use mathlib.Core.Bool.{Bool, cond}
+use mathlib.Core.Bool.{cond}
 use mathlib.Core.List.{List, [], _∷_}
 use lib.Dec.{eqb, ltb}
-use lib.ListN.{length, drop, take}
+use lib.ListN.{length, drop}
 use Rattle.lines.specs.declared.pieces.Piece.{Piece}
 use Rattle.lines.specs.declared.pieces.Piece.the-variants.{At, None}
 

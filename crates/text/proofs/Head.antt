@@ -3,16 +3,14 @@ use Prim.Native.Nat.{ℕ, suc, _+_, _-_, _≤_, _<_}
 use native.Mathlib.Nat.{suc-ne-zero}
 use native.Mathlib.Numerals.{add-one}
 use native.Mathlib.Omega.{arith}
-use mathlib.Core.Path.{_≡_, refl, sym, _∙_, ap, subst}
-use mathlib.Core.Bool.{Bool, true, false, cond, not, _&&_, _||_}
+use mathlib.Core.Path.{_≡_, refl, sym, _∙_, ap}
+use mathlib.Core.Bool.{Bool, true, false, _&&_}
 use mathlib.Core.List.{List, [], _∷_}
-use lib.Dec.{eqb, leb, ltb}
+use lib.Dec.{eqb}
 use lib.ListN.{length, getD, take, drop, drop-of-length-le}
 use lib.Seq.{drop-cons}
-use borrow.Author.Tests.{eq-eqb, ne-eqb, eqb-true, le-leb, lt-leb, ltb-false}
-use Rattle.graph.specs.Refusal.{given, _or_}
-use Rattle.graph.proofs.Refusals.{or-none, given-none}
-use Rattle.lines.specs.Pieces.{LF, split, lines}
+use borrow.Author.Tests.{eq-eqb, ne-eqb, le-leb, lt-leb}
+use Rattle.lines.specs.Pieces.{LF, lines}
 use Rattle.lines.specs.Numbers.{Content, faulty, numbers, longestLine, content}
 use Rattle.lines.specs.Answers.{foundOf}
 use Rattle.lines.specs.declared.numbers.Found.{Found}
@@ -21,10 +19,10 @@ use Rattle.lines.specs.declared.pieces.Piece.the-variants.{At, None}
 use Rattle.lines.proofs.Split.{Known, piece-left}
 use Rattle.text.specs.declared.header.Size.{Size}
 use Rattle.text.specs.declared.header.Size.the-variants.{Is, Refused}
-use Rattle.text.specs.declared.header.Head.{Head}
 use Rattle.text.specs.declared.header.Head.the-variants.{Is as HeadIs, Refused as HeadRefused}
-use Rattle.text.specs.Market.{refused, Limits, same, banner, percent, isComment, hasNone, passedOver, passOver, sizeRefusal, sized, sizeOf, entries, asTable, atSize, fromSize, fromFirst, market}
-use Rattle.text.specs.Steps.{FoundLine, SizeLine, Begun, HeadSaid}
+use Rattle.text.specs.Market.{Limits, same, banner, percent, isComment, hasNone, passedOver, passOver, sizeRefusal, sized, sizeOf, atSize, fromSize, fromFirst, market}
+use Rattle.text.proofs.Tables.{size-fits}
+use Rattle.text.specs.Steps.{FoundLine, SizeLine, HeadSaid}
 
 -- two lists of bytes are compared place by place
 pub same-uneven : (a b : List ℕ) → (length a ≡ length b → ⊥) → same a b ≡ false
@@ -110,14 +108,6 @@ pub line-none : (text : List ℕ) (at : ℕ) (r : Piece) → SizeLine text at r 
 unfolding SizeLine
 line-none text at r s q = rw q at s
 
-size-room : (l : Limits) (x y z : ℕ) → sizeRefusal l x y z ≡ 0 → z ≤ l .room
-unfolding sizeRefusal
-size-room l x y z e =
-    let (e1, r1) = or-none _ _ e in
-    let (e2, r2) = or-none _ _ r1 in
-    let (e3, e4) = or-none _ _ r2 in
-    ltb-false (l .room) z (given-none 5 _ (suc-ne-zero 4) e4)
-
 -- the size line
 module _ (l : Limits) where
   pub size-faulty : (c : Content) → c ≡ faulty → sizeOf l c ≡ Refused 14
@@ -139,20 +129,6 @@ module _ (l : Limits) where
   size-three c (x ∷ y ∷ []) f e h n = absurd (omega (arith, ap (λ (g : Found). g .count) h))
   size-three c (x ∷ y ∷ z ∷ []) f e h n = rw (e, h)
   size-three c (x ∷ y ∷ z ∷ u ∷ vs) f e h n = absurd (omega (arith, ap (λ (g : Found). g .count) h))
-
--- a size line that is taken leaves room for its entries
-sized-room : (l : Limits) (k n m x y z : ℕ) (t : Bool) → k ≡ sizeRefusal l x y z → eqb k 0 ≡ t → cond t (Is x z) (Refused k) ≡ Is n m → m ≤ l .room
-sized-room l k n m x y z true e p q = let h : z ≡ m = cc in rw (← h) (size-room l x y z (sym e ∙ eqb-true k 0 p))
-sized-room l k n m x y z false e p q = let h : _≡_ {A = ℕ} 0 1 = cc in absurd (omega arith)
-
-size-fits : (l : Limits) (c : Content) (n m : ℕ) → sizeOf l c ≡ Is n m → m ≤ l .room
-unfolding sizeOf sized
-size-fits l (numbers (x ∷ y ∷ z ∷ [])) n m q = sized-room l (sizeRefusal l x y z) n m x y z (eqb (sizeRefusal l x y z) 0) refl refl q
-size-fits l (numbers []) n m q = let h : _≡_ {A = ℕ} 0 1 = cc in absurd (omega arith)
-size-fits l (numbers (x ∷ [])) n m q = let h : _≡_ {A = ℕ} 0 1 = cc in absurd (omega arith)
-size-fits l (numbers (x ∷ y ∷ [])) n m q = let h : _≡_ {A = ℕ} 0 1 = cc in absurd (omega arith)
-size-fits l (numbers (x ∷ y ∷ z ∷ u ∷ vs)) n m q = let h : _≡_ {A = ℕ} 0 1 = cc in absurd (omega arith)
-size-fits l faulty n m q = let h : _≡_ {A = ℕ} 0 1 = cc in absurd (omega arith)
 
 -- all lines up to the size line
 module _ (l : Limits) (text : List ℕ) where

@@ -1,3 +1,4 @@
+pub mod Tables
 pub mod Head
 pub mod Edges
 pub mod Reading

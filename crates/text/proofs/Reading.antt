@@ -1,7 +1,7 @@
 -- The reader as a whole.
-use Prim.Native.Nat.{ℕ, _≤_, min}
+use Prim.Native.Nat.{ℕ, min}
 use native.Mathlib.Omega.{arith}
-use mathlib.Core.Path.{_≡_, refl, sym, _∙_, ap, subst}
+use mathlib.Core.Path.{_≡_, sym, _∙_, ap}
 use mathlib.Core.Bool.{true, false}
 use mathlib.Core.List.{List}
 use lib.ListN.{length, drop}
@@ -9,7 +9,7 @@ use Rattle.lines.specs.Pieces.{lines}
 use Rattle.text.specs.declared.header.Head.{Head}
 use Rattle.text.specs.declared.header.Head.the-variants.{Is, Refused}
 use Rattle.text.specs.declared.Answer.the-variants.{Done, Refused as AnswerRefused}
-use Rattle.text.specs.Market.{Result, done, refused, Table, Limits, entries, asTable, market}
+use Rattle.text.specs.Market.{done, refused, Limits, entries, asTable}
 use Rattle.text.specs.Steps.{limits, Begun, HeadSaid, Judged, JudgeSaid, isDone, edgesOf, FillAsk, Filled}
 use Rattle.text.specs.Promise.{Call, reading, answerTo, after, Promise}
 use Rattle.text.proofs.Edges.{entries-refused, done-some, entries-count}

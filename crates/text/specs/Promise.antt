@@ -5,7 +5,7 @@ use mathlib.Core.List.{List}
 use lib.ListN.{length}
 use Rattle.text.specs.declared.Answer.{Answer}
 use Rattle.text.specs.declared.Answer.the-variants.{Done, Refused}
-use Rattle.text.specs.Market.{Result, refused, done, Arrow, Table, Limits, market}
+use Rattle.text.specs.Market.{Result, refused, done, Arrow, Table, market}
 use Rattle.text.specs.Steps.{limits, column}
 
 -- all that the reader is given

@@ -1,5 +1,5 @@
 -- What the steps of the reader promise.
-use Prim.Native.Nat.{ℕ, zero, suc, _+_, _-_, _≤_, _<_}
+use Prim.Native.Nat.{ℕ, zero, suc, _+_, _-_, _≤_}
 use mathlib.Core.Path.{_≡_}
 use mathlib.Core.Bool.{Bool, true, false}
 use mathlib.Core.List.{List, [], _∷_, _++_, map}
@@ -13,7 +13,7 @@ use Rattle.text.specs.declared.entries.Left.{Left}
 use Rattle.text.specs.declared.entries.Left.the-variants.{Is, Faulty as TooMany}
 use Rattle.text.specs.declared.header.Head.{Head}
 use Rattle.text.specs.declared.header.Head.the-variants.{Is as HeadIs, Refused}
-use Rattle.text.specs.Market.{Result, refused, done, Arrow, Table, Limits, passOver, entries, asTable, market}
+use Rattle.text.specs.Market.{Result, refused, done, Arrow, Limits, passOver, entries, asTable, market}
 
 abbrev pub limits : ℕ → ℕ → ℕ → Limits
 limits mostVertices mostEdges room = record { mostVertices = mostVertices; mostEdges = mostEdges; room = room }
