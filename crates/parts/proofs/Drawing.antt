@@ -1,5 +1,5 @@
 -- Drawn pivots.
-use Prim.Native.Nat.{ℕ, suc, _+_, _*_, _%_, _≤_, _<_}
+use Prim.Native.Nat.{ℕ, _+_, _*_, _%_, _≤_, _<_}
 use native.Mathlib.Omega.{arith}
 use native.Mathlib.Nat.{mod-lt}
 use native.Mathlib.Decide.{ℕ-discrete}
@@ -14,7 +14,7 @@ use borrow.Author.Tests.{eq-eqb, ne-eqb}
 use Rattle.graph.specs.Graph.{Graph, rev}
 use Rattle.graph.specs.Parts.{only}
 use Rattle.graph.specs.Limits.{mostVertices}
-use Rattle.graph.specs.Numbers.{many, tally}
+use Rattle.graph.specs.Numbers.{many}
 use Rattle.graph.specs.Pivot.{draw, draws, member}
 use Rattle.graph.specs.Sets.{bit, members}
 use Rattle.graph.proofs.Counts.{many-le, many-more}
@@ -24,15 +24,15 @@ use Rattle.graph.proofs.Tests.{eq-T}
 use Rattle.sets.proofs.Sizes.{member-bit}
 use Rattle.pivot.specs.Place.{Within}
 use Rattle.pivot.proofs.Members.{at-place}
-use Rattle.paint.specs.Colours.{col, que, paint, Hit}
+use Rattle.paint.specs.Colours.{col, paint, Hit}
 use Rattle.paint.specs.Paint.{Searched}
 use Rattle.parts.specs.State.{Stage}
-use Rattle.parts.specs.Split.{Lowest, Named, SplitAsk, Split}
+use Rattle.parts.specs.Split.{Lowest, Named, SplitAsk}
 use Rattle.parts.specs.Sweep.{has, chosen, Sweeps, unswept, taken}
 use Rattle.parts.specs.Drawn.{Empty, Marks, EraseAsk, Erased, Cut, DrawAsk, Drawn, RunAsk, SweptDrawn}
 use Rattle.parts.proofs.Marking.{tally-at}
 use Rattle.parts.proofs.Splitting.{queued, left, stays, split-all}
-use Rattle.parts.proofs.Sweeping.{split-ask, sweeps-kept, sweeps-stage}
+use Rattle.parts.proofs.Sweeping.{sweeps-kept, sweeps-stage}
 
 bool-same : (a b : Bool) → _≡_ {A = ℕ} (cond a 1 0) (cond b 1 0) → a ≡ b
 bool-same true true e = refl

@@ -5,3 +5,8 @@ pub mod Sweeping
 pub mod Marking
 pub mod Drawing
 pub mod Sharing
+pub mod Same
+pub mod ByKind
+pub mod Handing
+pub mod Dividing
+pub mod Choice

@@ -1,5 +1,5 @@
 -- The set of what remains of a part: filled along its chain, and what is painted taken out.
-use Prim.Native.Nat.{ℕ, zero, suc, _+_, _*_, _/_, _≤_, _<_}
+use Prim.Native.Nat.{ℕ, zero, suc, _+_, _≤_, _<_}
 use native.Mathlib.Omega.{arith}
 use native.Mathlib.Decide.{ℕ-discrete, decLt}
 use mathlib.Core.Path.{_≡_, refl, sym, ap, _∙_}
@@ -13,11 +13,9 @@ use Rattle.graph.specs.Numbers.{tally}
 use Rattle.graph.specs.Sets.{bit}
 use Rattle.graph.proofs.Sums.{tally-none}
 use Rattle.graph.proofs.Changes.{tally-less}
-use Rattle.sets.specs.Changes.{Added, Removed}
 use Rattle.paint.specs.Colours.{col, que}
 use Rattle.parts.specs.State.{ord}
 use Rattle.parts.specs.Chain.{own, nxt, Follows}
-use Rattle.parts.specs.Split.{Queued}
 use Rattle.parts.specs.Sweep.{has}
 use Rattle.parts.specs.Drawn.{Marks, EnterAsk, Entered, MarkAsk, StrikeAsk, Struck, EraseAsk, Erased}
 

@@ -1,11 +1,11 @@
 -- Each pivot finishes at most one component of two or more vertices.
-use Prim.Native.Nat.{ℕ, zero, suc, _+_, _≤_, _<_}
+use Prim.Native.Nat.{ℕ, _+_, _≤_, _<_}
 use native.Mathlib.Omega.{arith}
-use mathlib.Core.Path.{_≡_, refl, sym, ap, _∙_}
-use mathlib.Core.Logic.{_↔_, _⊎_, inl, inr, ⊎-elim}
-use mathlib.Core.Bool.{Bool, true, false, not, _&&_}
+use mathlib.Core.Path.{_≡_, sym, _∙_}
+use mathlib.Core.Logic.{_⊎_, ⊎-elim}
+use mathlib.Core.Bool.{not, _&&_}
 use lib.Dec.{T, eqb, eqb→eq, T-not, not-T}
-use Rattle.graph.specs.Numbers.{many, some-below}
+use Rattle.graph.specs.Numbers.{many}
 use Rattle.graph.proofs.Tests.{and-l, and-r, and-make, eq-T, some-below-iff}
 use Rattle.graph.proofs.Counts.{many-one, many-mono}
 use Rattle.parts.specs.State.{ring}

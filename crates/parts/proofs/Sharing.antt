@@ -3,7 +3,7 @@ use Prim.Native.Nat.{ℕ, zero, suc, _+_, _*_, _≤_, _<_}
 use native.Mathlib.Omega.{arith}
 use native.Mathlib.Decide.{ℕ-discrete, decLt}
 use mathlib.Core.Path.{_≡_, refl, sym, ap, _∙_}
-use mathlib.Core.Logic.{_⊎_, inl, inr, ⊎-elim}
+use mathlib.Core.Logic.{inl, inr, ⊎-elim}
 use mathlib.Core.List.{List}
 use lib.ListN.{length, getD, set, drop, length-set}
 use lib.Seq.{getD-set-same, getD-set-other, getD-drop}
@@ -13,7 +13,7 @@ use Rattle.index.proofs.Counts.{counts, count-zero, count-suc, same-yes, same-n
 use Rattle.paint.specs.Colours.{col}
 use Rattle.parts.specs.State.{ord}
 use Rattle.parts.specs.Chain.{own, nxt, lst, head, Follows, First}
-use Rattle.parts.specs.Share.{LinkAsk, Linked, HangAsk, Hung, UpTo, Last, Sharing, ShareAsk}
+use Rattle.parts.specs.Share.{Linked, HangAsk, Hung, UpTo, Last, Sharing, ShareAsk}
 
 tally-le : (f : ℕ → ℕ) (n : ℕ) → ((v : ℕ) → f v < 2) → tally f n ≤ n
 unfolding tally

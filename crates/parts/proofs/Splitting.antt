@@ -1,23 +1,23 @@
 -- One pivot, from its two searches.
-use Prim.Native.Nat.{ℕ, suc, _+_, _*_, _≤_, _<_}
+use Prim.Native.Nat.{ℕ, _+_, _≤_, _<_}
 use native.Mathlib.Omega.{arith}
 use native.Mathlib.Decide.{ℕ-discrete}
-use mathlib.Core.Path.{_≡_, refl, sym, ap, _∙_}
+use mathlib.Core.Path.{_≡_, sym, ap, _∙_}
 use mathlib.Core.Logic.{_⊎_, inl, inr, ⊎-elim}
 use mathlib.Core.Bool.{true}
 use mathlib.Core.List.{List}
-use lib.ListN.{length, getD}
-use Rattle.graph.specs.Graph.{Graph, rev, Part, Valid, Chain, stay, step, Same, edges}
+use lib.ListN.{getD}
+use Rattle.graph.specs.Graph.{Graph, rev, Part, Valid, Same, edges}
 use Rattle.graph.specs.Parts.{Closed, Fwd, Bwd, only}
-use Rattle.graph.proofs.Chains.{valid-rev, same-rev, edge-to-low, chain-last, reach-wider, same-sym, same-refl, same-low}
-use Rattle.graph.proofs.Decompose.{fwd-closed, shared-is-component}
+use Rattle.graph.proofs.Chains.{valid-rev, chain-last, same-refl, same-low}
+use Rattle.graph.proofs.Decompose.{shared-is-component}
 use Rattle.graph.proofs.Method.{component-label, bwd-rev}
 use Rattle.index.proofs.Moved.{indexed-kept}
 use Rattle.paint.specs.Colours.{col, que, paint, Opens, Hit}
 use Rattle.paint.specs.Paint.{StartAsk, Searched}
 use Rattle.paint.proofs.Painting.{kept-more, paint-first, paint-second, paint-still, paint-opens}
 use Rattle.paint.proofs.Components.{fwd-low, search-whole, search-whole-back}
-use Rattle.parts.specs.State.{Owned, Tables}
+use Rattle.parts.specs.State.{Tables}
 use Rattle.parts.specs.Split.{Lowest, Queued, Named, SplitAsk, Split}
 
 -- THE INDEXES STAND BELOW WHAT CHANGES

@@ -6,14 +6,14 @@ use mathlib.Core.Path.{_≡_, refl, sym, ap, _∙_}
 use mathlib.Core.Logic.{_⊎_, inl, inr, ⊎-elim}
 use mathlib.Core.Bool.{Bool}
 use mathlib.Core.List.{List}
-use lib.ListN.{length, getD}
+use lib.ListN.{length}
 use lib.Dec.{T, ltb, ltb→lt, eqb, eqb→eq}
 use borrow.Author.Tests.{lt-ltb, ne-eqb}
 use Rattle.graph.specs.Graph.{Graph}
-use Rattle.graph.specs.Numbers.{least, many}
+use Rattle.graph.specs.Numbers.{least}
 use Rattle.graph.specs.Pivot.{draws}
 use Rattle.graph.proofs.Counts.{many-le, many-more}
-use Rattle.graph.proofs.Tests.{eq-T, least-le, least-passes, least-first}
+use Rattle.graph.proofs.Tests.{eq-T, least-passes, least-first}
 use Rattle.paint.specs.Colours.{col, Kept}
 use Rattle.paint.proofs.Painting.{kept-none, kept-more}
 use Rattle.parts.specs.State.{labelled, rings, ord, Placed, Stage}
@@ -101,6 +101,11 @@ module _ {g : Graph} {b q kind state top : ℕ} {w : List ℕ} (part : g .n ≤ 
   pub sweeps-many : {k : ℕ} {w' : List ℕ} → Sweeps g b q kind state top w k w' → rings g b w' ≤ rings g b w + k
   sweeps-many unswept = omega arith
   sweeps-many {w' = w'} (taken {k} {w₁} p s l e c z) = omega (arith, sweeps-many s, split-rings g b p q (top + 2 * k) w₁ w' l part e z)
+
+  -- what had the colour q and has it no more was taken by a pivot
+  pub sweeps-some : {k : ℕ} {w' : List ℕ} → Sweeps g b q kind state top w k w' → (v : ℕ) → col b w v ≡ q → (col b w' v ≡ q → ⊥) → 0 < k
+  sweeps-some unswept v t o = absurd (o t)
+  sweeps-some (taken p s l e c z) v t o = omega arith
 
   pub sweeps-stage : Stage g b top w → {k : ℕ} {w' : List ℕ} → Sweeps g b q kind state top w k w' → Stage g b (top + 2 * k) w'
   sweeps-stage a unswept = let y : top + 2 * 0 ≡ top = omega arith in rw y a

@@ -4,3 +4,4 @@ pub mod Chain
 pub mod Sweep
 pub mod Share
 pub mod Drawn
+pub mod Divide

@@ -1,10 +1,10 @@
 -- One pivot: what it reaches and what reaches it within its part. What they share is a component.
-use Prim.Native.Nat.{ℕ, _+_, _*_, _≤_, _<_}
+use Prim.Native.Nat.{ℕ, _+_, _≤_, _<_}
 use mathlib.Core.Path.{_≡_}
 use mathlib.Core.List.{List}
 use mathlib.Core.Logic.{_⊎_}
 use lib.ListN.{length, getD, set}
-use Rattle.graph.specs.Graph.{Graph, Same}
+use Rattle.graph.specs.Graph.{Graph}
 use Rattle.graph.specs.Limits.{mostVertices}
 use Rattle.paint.specs.Colours.{col, que, Kept}
 use Rattle.parts.specs.State.{Tables, Owned}

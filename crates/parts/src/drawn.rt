@@ -31,7 +31,7 @@ fn enter(n: usize, w: &[u32], words: &mut [u64], b: usize, i: usize, q: u32, k: 
 }
 
 // The vertices of the colour q, found along the chain from h, become the set. Its size.
-fn mark(n: usize, w: &[u32], words: &mut [u64], b: usize, h: usize, q: u32) -> usize
+pub fn mark(n: usize, w: &[u32], words: &mut [u64], b: usize, h: usize, q: u32) -> usize
     requires { ⌜ MarkAsk n b h q (now w) (now words) ⌝ }
     ensures { λ k. ⌜ Marks n b q (now (w .entry)) (now (words .exit)) k ⌝ }
 {
@@ -58,7 +58,7 @@ fn strike(words: &mut [u64], v: usize, left: usize) -> usize
 }
 
 // The first k of the queue are taken out of the set. Its size.
-fn erase(n: usize, w: &[u32], words: &mut [u64], b: usize, k: usize, size: usize) -> usize
+pub fn erase(n: usize, w: &[u32], words: &mut [u64], b: usize, k: usize, size: usize) -> usize
     requires { ⌜ EraseAsk n b (now w) k (now words) size ⌝ }
     ensures { λ r. ⌜ Erased n b (now (w .entry)) k (now (words .entry)) (now (words .exit)) r ⌝ }
 {

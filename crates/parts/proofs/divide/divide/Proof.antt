@@ -1,0 +1,76 @@
+use mathlib.Core.Path.{refl}
+use native.Mathlib.Omega.{arith}
+use borrow.Author.Needs.{needs}
+use Rattle.graph.specs.Graph.{graph}
+use Rattle.parts.proofs.Dividing.{divide-trim, divide-sweep, divide-share, divide-all}
+use Rattle.parts.proofs.divide.divide.Statement.{statement}
+use Rattle.parts.proofs.divide.divide.Tie as tie
+
+mul-v : tie.Need-mul-v
+mul-v c = search needs
+
+add-v : tie.Need-add-v
+add-v c = search needs
+
+add-v-2 : tie.Need-add-v-2
+add-v-2 c = search needs
+
+add-v-3 : tie.Need-add-v-3
+add-v-3 c = search needs
+
+mul-v-2 : tie.Need-mul-v-2
+mul-v-2 c = search needs
+
+slice-read-v : tie.Need-slice-read-v
+slice-read-v c = search needs
+
+cast-v : tie.Need-cast-v
+cast-v c = let s = c .before .before .before .before .before in omega (arith, s .pre .stage .placed .low (s .args .h) (s .pre .first .low), s .pre .stage .tables .small, s .pre .stage .long)
+
+add-q : tie.Need-add-q
+add-q c = let s = c .before .before .before .before .before in omega (arith, s .pre .stage .placed .low (s .args .h) (s .pre .first .low), s .pre .stage .tables .small, s .pre .stage .long)
+
+mul-q : tie.Need-mul-q
+mul-q c = let s = c .before .before .before .before .before in omega (arith, s .pre .stage .placed .low (s .args .h) (s .pre .first .low), s .pre .stage .tables .small, s .pre .stage .long)
+
+slice-read-q : tie.Need-slice-read-q
+slice-read-q c = let s = c .before .before .before .before .before .before in omega (arith, s .pre .stage .placed .low (s .args .h) (s .pre .first .low), s .pre .stage .tables .small, s .pre .stage .long)
+
+prune-requires : tie.Need-prune-requires
+prune-requires c κs = let s = c .before .before .before .before .before .before .before in divide-trim (graph (s .args .n) (s .args .sources .now) (s .args .targets .now)) (s .args .b) (s .args .kind) (s .args .state) (s .args .h) (s .args .top) (s .args .w .now) (s .args .words .now) (s .pre) (λ e. refl)
+
+swept-requires : tie.Need-swept-requires
+swept-requires c κs = let s = c .before .before .before .before .before .before .before .before .before .before .before .before in divide-sweep (graph (s .args .n) (s .args .sources .now) (s .args .targets .now)) (s .args .b) (s .args .kind) (s .args .state) (s .args .h) (s .args .top) (s .args .w .now) (s .args .words .now) (s .pre) _ _ (c .before .before .before .before .prune .ensures) (s .args .words .now) (s .pre .blank)
+
+share-requires : tie.Need-share-requires
+share-requires c κs = let s = c .before .before .before .before .before .before .before .before .before .before .before .before .before .before .before .before .before .before in divide-share (graph (s .args .n) (s .args .sources .now) (s .args .targets .now)) (s .args .b) (s .args .kind) (s .args .state) (s .args .h) (s .args .top) (s .args .w .now) (s .args .words .now) (s .pre) _ _ (c .before .before .before .before .before .before .before .before .before .before .prune .ensures) _ _ _ _ _ (c .before .before .before .before .before .swept .ensures)
+
+same-length : tie.Need-same-length
+same-length c = search needs
+
+same-length-2 : tie.Need-same-length-2
+same-length-2 c = search needs
+
+returns : tie.Need-returns
+returns c = let s = c .before .before .before .before .before .before .before .before .before .before .before .before .before .before .before .before .before .before .before .before .before in divide-all (graph (s .args .n) (s .args .sources .now) (s .args .targets .now)) (s .args .b) (s .args .kind) (s .args .state) (s .args .h) (s .args .top) (s .args .w .now) (s .args .words .now) (s .pre) _ _ (c .before .before .before .before .before .before .before .before .before .before .before .before .before .prune .ensures) _ _ _ _ _ (c .before .before .before .before .before .before .before .before .swept .ensures) _ _ (c .before .before .share .ensures)
+
+pub divide-spec : {M : Type 1} → statement M
+divide-spec =
+    tie.close
+    (tie.spec
+    mul-v
+    add-v
+    add-v-2
+    add-v-3
+    mul-v-2
+    slice-read-v
+    cast-v
+    add-q
+    mul-q
+    slice-read-q
+    prune-requires
+    swept-requires
+    share-requires
+    same-length
+    same-length-2
+    returns)
