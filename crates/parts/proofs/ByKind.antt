@@ -21,11 +21,11 @@ bit-same : (n : ℕ) (ws ws' : List ℕ) → ((j : ℕ) → j < wordsOf n → ge
 unfolding bit
 bit-same n ws ws' s v l = rw (s (v / 64) (omega arith)) refl
 
-module _ (g : Graph) (b h q kind state top : ℕ) (w ws : List ℕ) (a : KindAsk g b h q top w ws) where
+module _ {g : Graph} {b h q top : ℕ} {w ws : List ℕ} (a : KindAsk g b h q top w ws) where
   -- the kinds 0 and 2
-  pub kind-chain : (kind ≡ 1 → ⊥) → (w' : List ℕ) (top' : ℕ) → Swept g b q 0 0 top w w' top' → KindSwept g b q kind state top w ws w' ws state 0 top'
+  pub kind-chain : {kind state : ℕ} → (kind ≡ 1 → ⊥) → {w' : List ℕ} {top' : ℕ} → Swept g b q 0 0 top w w' top' → KindSwept g b q kind state top w ws w' ws state 0 top'
   unfolding draws
-  kind-chain o w' top' z = record {
+  kind-chain {kind} o z = record {
     pivots = z .pivots;
     sweeps = sweeps-kind o (z .sweeps);
     colours = z .colours;
@@ -49,9 +49,9 @@ module _ (g : Graph) (b h q kind state top : ℕ) (w ws : List ℕ) (a : KindAsk
     };
   }
 
-  pub kind-drawn : kind ≡ 1 → (w' l : List ℕ) (state' k top' : ℕ) → SweptDrawn g b q state top w w' l state' k top'
+  pub kind-drawn : {kind state : ℕ} → kind ≡ 1 → {w' l : List ℕ} {state' k top' : ℕ} → SweptDrawn g b q state top w w' l state' k top'
       → KindSwept g b q kind state top w ws w' (l ++ drop (wordsOf (g .n)) ws) state' k top'
-  kind-drawn e w' l state' k top' z = rw e (record {
+  kind-drawn e {l = l} {k = k} z = rw e (record {
     pivots = k;
     sweeps = z .sweeps;
     colours = z .colours;

@@ -29,7 +29,7 @@ use Rattle.parts.proofs.Same.{labels-same}
 use Rattle.parts.proofs.Handing.{hand-ask, hand-colour, handed}
 
 -- TRIMMING
-module _ (g : Graph) (b q top : ℕ) (w w' : List ℕ) (k : ℕ) (s : Stage g b top w) (part-q : g .n ≤ q) (known : q < top) (z : Trimmed g b q w w' k) where
+module _ {g : Graph} {b q top : ℕ} {w w' : List ℕ} {k : ℕ} (s : Stage g b top w) (part-q : g .n ≤ q) (known : q < top) (z : Trimmed g b q w w' k) where
   closed : Closed g (part (hued (g .n) b q w))
   closed u v e t =
       let lu : u < g .n = ltb→lt u (g .n) (and-l (ltb u (g .n)) (eqb (col b w u) q) t) in
@@ -103,7 +103,7 @@ module _ (g : Graph) (b q top : ℕ) (w w' : List ℕ) (k : ℕ) (s : Stage g b 
   ]
 
 -- THE WHOLE
-module _ (g : Graph) (b kind state h top : ℕ) (w ws : List ℕ) (a : DivideAsk g b h top w ws) where
+module _ {g : Graph} {b h top : ℕ} {w ws : List ℕ} (a : DivideAsk g b h top w ws) where
   abbrev q : ℕ
   q = own (g .n) b w h
 
@@ -133,44 +133,44 @@ module _ (g : Graph) (b kind state h top : ℕ) (w ws : List ℕ) (a : DivideAsk
     };
   }
 
-  module _ (w₁ : List ℕ) (t : ℕ) (z : Trimmed g b (own (g .n) b w h) w w₁ t) where
-    pub divide-sweep : (ws₁ : List ℕ) → Blank (g .n) ws₁ → KindAsk g b h (own (g .n) b w h) top w₁ ws₁
-    divide-sweep ws₁ y = record {
-      stage = trim-stage g b q top w w₁ t (a .stage) (a .first .part) known z;
+  module _ {w₁ : List ℕ} {t : ℕ} (z : Trimmed g b (own (g .n) b w h) w w₁ t) where
+    pub divide-sweep : KindAsk g b h (own (g .n) b w h) top w₁ ws
+    divide-sweep = record {
+      stage = trim-stage (a .stage) (a .first .part) known z;
       runs = record {
         past = own (g .n) b w;
         first = a .first;
         live = refl;
         next = λ i l e. rw (z .aside .mid (b + 2 * g .n + i) (omega arith) (omega arith)) (a .chain i l e);
-        still = trim-was g b q top w w₁ t (a .stage) (a .first .part) known z;
+        still = trim-was (a .stage) (a .first .part) known z;
       };
       known = known;
-      blank = y;
+      blank = a .blank;
     }
 
-    module _ (w₂ ws₂ : List ℕ) (state' k top' : ℕ) (y : KindSwept g b (own (g .n) b w h) kind state top w₁ ws w₂ ws₂ state' k top') where
+    module _ {kind state : ℕ} {w₂ ws₂ : List ℕ} {state' k top' : ℕ} (y : KindSwept g b (own (g .n) b w h) kind state top w₁ ws w₂ ws₂ state' k top') where
       kept : Kept (g .n) b w₁ w₂
       kept = sweeps-kept (a .first .part) known (y .sweeps)
 
       fewer : labelled g b w + y .pivots ≤ labelled g b w₂
-      fewer = omega (arith, trim-labels g b q top w w₁ t (a .stage) (a .first .part) known z, sweeps-few (a .first .part) known (y .sweeps))
+      fewer = omega (arith, trim-labels (a .stage) (a .first .part) known z, sweeps-few (a .first .part) known (y .sweeps))
 
       -- the first vertex was trimmed, or it was taken by a pivot
       some₂ : labelled g b w < labelled g b w₂
       some₂ = elim (ℕ-discrete (col b w₁ (ord (g .n) b w h)) q) as (λ _. labelled g b w < labelled g b w₂) [
         | yes c ↦ omega (arith, fewer, sweeps-some (a .first .part) known (y .sweeps) (ord (g .n) b w h) c (y .gone (ord (g .n) b w h) low-h))
-        | no c ↦ omega (arith, trim-more g b q top w w₁ t (a .stage) (a .first .part) known z (ord (g .n) b w h) low-h refl c, sweeps-few (a .first .part) known (y .sweeps))
+        | no c ↦ omega (arith, trim-more (a .stage) (a .first .part) known z (ord (g .n) b w h) low-h refl c, sweeps-few (a .first .part) known (y .sweeps))
       ]
 
       pub divide-recoloured : Recoloured g b h top w w₂ top'
       divide-recoloured = record {
-        stage = rw (y .colours) (sweeps-stage (a .first .part) known (trim-stage g b q top w w₁ t (a .stage) (a .first .part) known z) (y .sweeps));
+        stage = rw (y .colours) (sweeps-stage (a .first .part) known (trim-stage (a .stage) (a .first .part) known z) (y .sweeps));
         more = omega (arith, y .colours);
         others = λ v l o. let e = z .else v l o in sweeps-others (a .first .part) known (y .sweeps) v l (λ c. o (sym e ∙ c)) ∙ e;
         ours = λ v l e. elim (ℕ-discrete (col b w₁ v) q) as (λ _. (col b w₂ v < g .n) ⊎ (top ≤ col b w₂ v)) [
           | yes c ↦ ⊎-elim (λ m. absurd (y .gone v l m)) (λ m. m) (sweeps-ours (a .first .part) known (y .sweeps) v l c)
           | no c ↦
-              let f : col b w₁ v < g .n = ⊎-elim (λ x. absurd (c (x ∙ e))) (λ x. omega (arith, x .1)) (trim-each g b q top w w₁ t (a .stage) (a .first .part) known z v l) in
+              let f : col b w₁ v < g .n = ⊎-elim (λ x. absurd (c (x ∙ e))) (λ x. omega (arith, x .1)) (trim-each (a .stage) (a .first .part) known z v l) in
               inl (omega (arith, f, sweeps-others (a .first .part) known (y .sweeps) v l c))
         ];
         low = λ j l. kept .low j l ∙ z .aside .low j l;
@@ -180,15 +180,15 @@ module _ (g : Graph) (b kind state h top : ℕ) (w ws : List ℕ) (a : DivideAsk
       }
 
       pub divide-share : ShareAsk (g .n) b top top' h w₂
-      divide-share = hand-ask g b h top w ws a w₂ top' divide-recoloured
+      divide-share = hand-ask a divide-recoloured
 
-      module _ (w₃ : List ℕ) (children : ℕ) (x : Sharing (g .n) b top top' w₂ (g .n) w₃ children) where
+      module _ {w₃ : List ℕ} {children : ℕ} (x : Sharing (g .n) b top top' w₂ (g .n) w₃ children) where
         c₃ : (v : ℕ) → v < g .n → col b w₃ v ≡ col b w₂ v
-        c₃ = hand-colour g b h top w ws a w₂ top' divide-recoloured w₃ children x
+        c₃ = hand-colour a divide-recoloured x
 
         pub divide-all : Division g b kind state h top w ws w₃ ws₂ state' k top' children
         divide-all = record {
-          handed = handed g b h top w ws a w₂ top' divide-recoloured w₃ children x ws₂ (y .blank) (y .beyond) (y .long);
+          handed = handed a divide-recoloured x (y .blank) (y .beyond) (y .long);
           core = w₁;
           gone = t;
           trimmed = z;
@@ -199,6 +199,6 @@ module _ (g : Graph) (b kind state h top : ℕ) (w ws : List ℕ) (a : DivideAsk
           drawn = y .drawn;
           advanced = y .advanced;
           few = omega (arith, labels-same g b w₂ w₃ c₃, fewer);
-          many = omega (arith, rings-none (g .n) (col b w₂) (col b w₃) (λ v l m. inl (c₃ v l)), trim-rings g b q top w w₁ t (a .stage) (a .first .part) known z, sweeps-many (a .first .part) known (y .sweeps));
+          many = omega (arith, rings-none (g .n) (col b w₂) (col b w₃) (λ v l m. inl (c₃ v l)), trim-rings (a .stage) (a .first .part) known z, sweeps-many (a .first .part) known (y .sweeps));
           some = omega (arith, some₂, labels-same g b w₂ w₃ c₃);
         }

@@ -18,7 +18,7 @@ use Rattle.parts.proofs.Sweeping.{top-le}
 use Rattle.parts.proofs.Sharing.{pigeons}
 use Rattle.parts.proofs.Same.{follows-same, first-same, stage-same}
 
-module _ (g : Graph) (b h top : ℕ) (w ws : List ℕ) (a : DivideAsk g b h top w ws) (w₂ : List ℕ) (top' : ℕ) (y : Recoloured g b h top w w₂ top') where
+module _ {g : Graph} {b h top : ℕ} {w ws : List ℕ} (a : DivideAsk g b h top w ws) {w₂ : List ℕ} {top' : ℕ} (y : Recoloured g b h top w w₂ top') where
   -- the part's colour is no new one
   known : own (g .n) b w h < top
   known = a .stage .owned .below (ord (g .n) b w h) (a .stage .placed .low h (a .first .low))
@@ -55,7 +55,7 @@ module _ (g : Graph) (b h top : ℕ) (w ws : List ℕ) (a : DivideAsk g b h top 
     none = λ c l m. rw (y .chains (b + 2 * g .n + c) (omega arith) (omega (arith, m, top-le (y .stage)))) (a .none c l (omega (arith, m, top-le (y .stage))));
   }
 
-  module _ (w₃ : List ℕ) (children : ℕ) (x : Sharing (g .n) b top top' w₂ (g .n) w₃ children) where
+  module _ {w₃ : List ℕ} {children : ℕ} (x : Sharing (g .n) b top top' w₂ (g .n) w₃ children) where
     pub hand-colour : (v : ℕ) → v < g .n → col b w₃ v ≡ col b w₂ v
     hand-colour v l = x .low (b + v) (omega arith)
 
@@ -73,9 +73,9 @@ module _ (g : Graph) (b h top : ℕ) (w ws : List ℕ) (a : DivideAsk g b h top 
     head-low : (j : ℕ) → j < children → head (g .n) b w₃ j < g .n
     head-low j l = x .heads j l .0 .low
 
-    pub handed : (ws' : List ℕ) → Blank (g .n) ws' → ((j : ℕ) → wordsOf (g .n) ≤ j → getD ws' j 0 ≡ getD ws j 0) → length ws' ≡ length ws
+    pub handed : {ws' : List ℕ} → Blank (g .n) ws' → ((j : ℕ) → wordsOf (g .n) ≤ j → getD ws' j 0 ≡ getD ws j 0) → length ws' ≡ length ws
         → Handed g b h top w ws w₃ ws' top' children
-    handed ws' blank beyond long = record {
+    handed blank beyond long = record {
       stage = stage-same g b top' w₂ w₃ (x .low) ord₃ (x .long) (y .stage);
       others = λ v l o. hand-colour v l ∙ y .others v l o;
       ours = λ v l e. rw (hand-colour v l) (y .ours v l e);

@@ -1,7 +1,6 @@
 use mathlib.Core.Path.{refl}
 use native.Mathlib.Omega.{arith}
 use borrow.Author.Needs.{needs}
-use Rattle.graph.specs.Graph.{graph}
 use Rattle.parts.proofs.Dividing.{divide-trim, divide-sweep, divide-share, divide-all}
 use Rattle.parts.proofs.divide.divide.Statement.{statement}
 use Rattle.parts.proofs.divide.divide.Tie as tie
@@ -37,13 +36,13 @@ slice-read-q : tie.Need-slice-read-q
 slice-read-q c = let s = c .before .before .before .before .before .before in omega (arith, s .pre .stage .placed .low (s .args .h) (s .pre .first .low), s .pre .stage .tables .small, s .pre .stage .long)
 
 prune-requires : tie.Need-prune-requires
-prune-requires c κs = let s = c .before .before .before .before .before .before .before in divide-trim (graph (s .args .n) (s .args .sources .now) (s .args .targets .now)) (s .args .b) (s .args .kind) (s .args .state) (s .args .h) (s .args .top) (s .args .w .now) (s .args .words .now) (s .pre) (λ e. refl)
+prune-requires c κs = let s = c .before .before .before .before .before .before .before in divide-trim (s .pre) (λ e. refl)
 
 swept-requires : tie.Need-swept-requires
-swept-requires c κs = let s = c .before .before .before .before .before .before .before .before .before .before .before .before in divide-sweep (graph (s .args .n) (s .args .sources .now) (s .args .targets .now)) (s .args .b) (s .args .kind) (s .args .state) (s .args .h) (s .args .top) (s .args .w .now) (s .args .words .now) (s .pre) _ _ (c .before .before .before .before .prune .ensures) (s .args .words .now) (s .pre .blank)
+swept-requires c κs = let s = c .before .before .before .before .before .before .before .before .before .before .before .before in divide-sweep (s .pre) (c .before .before .before .before .prune .ensures)
 
 share-requires : tie.Need-share-requires
-share-requires c κs = let s = c .before .before .before .before .before .before .before .before .before .before .before .before .before .before .before .before .before .before in divide-share (graph (s .args .n) (s .args .sources .now) (s .args .targets .now)) (s .args .b) (s .args .kind) (s .args .state) (s .args .h) (s .args .top) (s .args .w .now) (s .args .words .now) (s .pre) _ _ (c .before .before .before .before .before .before .before .before .before .before .prune .ensures) _ _ _ _ _ (c .before .before .before .before .before .swept .ensures)
+share-requires c κs = let s = c .before .before .before .before .before .before .before .before .before .before .before .before .before .before .before .before .before .before in divide-share (s .pre) (c .before .before .before .before .before .before .before .before .before .before .prune .ensures) (c .before .before .before .before .before .swept .ensures)
 
 same-length : tie.Need-same-length
 same-length c = search needs
@@ -52,7 +51,7 @@ same-length-2 : tie.Need-same-length-2
 same-length-2 c = search needs
 
 returns : tie.Need-returns
-returns c = let s = c .before .before .before .before .before .before .before .before .before .before .before .before .before .before .before .before .before .before .before .before .before in divide-all (graph (s .args .n) (s .args .sources .now) (s .args .targets .now)) (s .args .b) (s .args .kind) (s .args .state) (s .args .h) (s .args .top) (s .args .w .now) (s .args .words .now) (s .pre) _ _ (c .before .before .before .before .before .before .before .before .before .before .before .before .before .prune .ensures) _ _ _ _ _ (c .before .before .before .before .before .before .before .before .swept .ensures) _ _ (c .before .before .share .ensures)
+returns c = let s = c .before .before .before .before .before .before .before .before .before .before .before .before .before .before .before .before .before .before .before .before .before in divide-all (s .pre) (c .before .before .before .before .before .before .before .before .before .before .before .before .before .prune .ensures) (c .before .before .before .before .before .before .before .before .swept .ensures) (c .before .before .share .ensures)
 
 pub divide-spec : {M : Type 1} → statement M
 divide-spec =
