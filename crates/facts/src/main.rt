@@ -6,10 +6,12 @@ mod searches;
 mod summaries;
 mod t;
 mod tables;
+mod walks;
 
 fn main() {
     tables::run();
     searches::run();
+    walks::run();
     summaries::run();
     columns::run();
     draws::run();
