@@ -1,29 +1,27 @@
 -- The edges of one vertex, and those of a level.
-use Prim.Native.Nat.{ℕ, zero, suc, _+_, _-_, _*_, _≤_, _<_}
+use Prim.Native.Nat.{ℕ, suc, _+_, _-_, _*_, _≤_, _<_}
 use native.Mathlib.Omega.{arith}
 use native.Mathlib.Decide.{ℕ-discrete}
-use mathlib.Core.Path.{_≡_, refl, sym, ap, subst, _∙_}
-use mathlib.Core.Logic.{⊎-elim}
+use mathlib.Core.Path.{_≡_, sym, ap, _∙_}
 use mathlib.Core.List.{List}
 use lib.ListN.{length, getD}
 use Rattle.graph.specs.Graph.{Graph, Edge, edges, from, to}
 use Rattle.graph.specs.Limits.{mostVertices, mostEdges}
-use Rattle.graph.specs.Numbers.{tally}
 use Rattle.graph.proofs.Chains.{edge-to-low}
 use Rattle.graph.proofs.Changes.{tally-most}
-use Rattle.index.specs.Index.{count, start}
+use Rattle.index.specs.Index.{start}
 use Rattle.index.proofs.Counts.{start-suc, start-mono, start-all}
 use Rattle.index.proofs.Place.{count-le}
-use Rattle.paint.specs.Colours.{col, que, Opens, Shut}
-use Rattle.paint.specs.Paint.{queued, waiting, Grew, Ready, VisitAsk, Visited, other, ScanAsk, Scanned, leaving, Ahead, LevelAsk, Levelled}
-use Rattle.paint.proofs.Growth.{queued-suc, queued-ones, grew-none, grew-more, stays, was-open, ready-more}
+use Rattle.paint.specs.Colours.{col, que, Shut}
+use Rattle.paint.specs.Paint.{queued, Ready, VisitAsk, Visited, other, ScanAsk, Scanned, leaving, LevelAsk, Levelled}
+use Rattle.paint.proofs.Growth.{queued-suc, grew-none, grew-more, stays, was-open, ready-more}
 
 -- THE EDGES OF ONE VERTEX
-module _ (m : ℕ → ℕ) (n b eb : ℕ) (to : List ℕ) (i₀ t : ℕ) (w₀ : List ℕ) (k₀ : ℕ) (a : ScanAsk m n eb b to i₀ t w₀ k₀) where
+module _ {m : ℕ → ℕ} {n b eb : ℕ} {to : List ℕ} {i₀ t : ℕ} {w₀ : List ℕ} {k₀ : ℕ} (a : ScanAsk m n eb b to i₀ t w₀ k₀) where
   pub scan-none : Scanned m n eb b to i₀ i₀ w₀ k₀ w₀ k₀
   scan-none = record { grew = grew-none m n b w₀ k₀ _; shut = λ j x y. absurd (omega arith) }
 
-  module _ (i : ℕ) (w : List ℕ) (k : ℕ) (s : Scanned m n eb b to i₀ i w₀ k₀ w k) (l : i₀ ≤ i) (h : i < t) where
+  module _ {i : ℕ} {w : List ℕ} {k : ℕ} (s : Scanned m n eb b to i₀ i w₀ k₀ w k) (l : i₀ ≤ i) (h : i < t) where
     edge-same : getD w (eb + i) 0 ≡ getD w₀ (eb + i) 0
     edge-same = s .grew .kept .low (eb + i) (omega (arith, a .below))
 
@@ -36,8 +34,8 @@ module _ (m : ℕ → ℕ) (n b eb : ℕ) (to : List ℕ) (i₀ t : ℕ) (w₀ :
     pub scan-ask : VisitAsk m n b (other w eb to i) w k
     scan-ask = record { ready = ready-more m n b (s .grew) (a .ready); vertex = other-lt }
 
-    pub scan-step : (w' : List ℕ) (k' : ℕ) → Visited m n b (other w eb to i) w k w' k' → Scanned m n eb b to i₀ (i + 1) w₀ k₀ w' k'
-    scan-step w' k' v =
+    pub scan-step : {w' : List ℕ} {k' : ℕ} → Visited m n b (other w eb to i) w k w' k' → Scanned m n eb b to i₀ (i + 1) w₀ k₀ w' k'
+    scan-step {w'} {k'} v =
         let e : other w eb to i ≡ other w₀ eb to i = ap (λ (x : ℕ). getD to x 0) edge-same in
         record {
           grew = grew-more m n b (a .ready .still) w₀ k₀ w k w' k' _ _ _
@@ -70,11 +68,11 @@ pub queued-most : (g : Graph) (b : ℕ) (w : List ℕ) (k : ℕ) → edges g ≤
 unfolding queued
 queued-most g b w k h = tally-most (λ i. leaving g (que (g .n) b w i)) k mostEdges (λ i l. omega (arith, count-le (g .src) (edges g) (que (g .n) b w i)))
 
-module _ (g : Graph) (m : ℕ → ℕ) (ix b h : ℕ) (w₀ : List ℕ) (k₀ : ℕ) (a : LevelAsk g m ix b h w₀ k₀) where
+module _ {g : Graph} {m : ℕ → ℕ} {ix b h : ℕ} {w₀ : List ℕ} {k₀ : ℕ} (a : LevelAsk g m ix b h w₀ k₀) where
   pub level-none : Levelled g m b h h w₀ k₀ w₀ k₀ 0
   level-none = record { grew = grew-none m (g .n) b w₀ k₀ _; shut = λ v t. absurd (omega (arith, t .2, t .3)); looked = omega arith }
 
-  module _ (i : ℕ) (w : List ℕ) (k seen : ℕ) (z : Levelled g m b h i w₀ k₀ w k seen) (hi : h ≤ i) (ik : i < k₀) where
+  module _ {i : ℕ} {w : List ℕ} {k seen : ℕ} (z : Levelled g m b h i w₀ k₀ w k seen) (hi : h ≤ i) (ik : i < k₀) where
     abbrev u : ℕ
     u = que (g .n) b w i
 
@@ -148,7 +146,7 @@ module _ (g : Graph) (m : ℕ → ℕ) (ix b h : ℕ) (w₀ : List ℕ) (k₀ : 
     pub turn-ask : ScanAsk m (g .n) (ix + g .n + 1) b (g .tgt) (getD w (ix + que (g .n) b w i) 0) (getD w (ix + que (g .n) b w i + 1) 0) w k
     turn-ask = rw (turn .begins, turn .ends) own-ask
 
-    pub turn-step : (w' : List ℕ) (k' : ℕ)
+    pub turn-step : {w' : List ℕ} {k' : ℕ}
         → Scanned m (g .n) (ix + g .n + 1) b (g .tgt) (getD w (ix + que (g .n) b w i) 0) (getD w (ix + que (g .n) b w i + 1) 0) w k w' k'
         → Levelled g m b h (i + 1) w₀ k₀ w' k' (seen + (getD w (ix + que (g .n) b w i + 1) 0 - getD w (ix + que (g .n) b w i) 0))
-    turn-step w' k' s = rw (turn .begins, turn .ends) (own-step w' k' (rw (turn .begins, turn .ends) at s))
+    turn-step {w'} {k'} s = rw (turn .begins, turn .ends) (own-step w' k' (rw (turn .begins, turn .ends) at s))

@@ -1,29 +1,29 @@
 -- Level after level until the queue is used up, and what a whole search has then done.
-use Prim.Native.Nat.{ℕ, zero, suc, _+_, _-_, _*_, _≤_, _<_}
+use Prim.Native.Nat.{ℕ, suc, _+_, _-_, _*_, _≤_, _<_}
 use native.Mathlib.Omega.{arith}
 use native.Mathlib.Decide.{decLt}
 use mathlib.Core.Path.{_≡_, refl, sym, ap, subst, _∙_}
 use mathlib.Core.Logic.{_⊎_, inl, inr, ⊎-elim}
 use mathlib.Core.Bool.{Bool, true, false, cond, not, _&&_}
 use mathlib.Core.List.{List}
-use lib.ListN.{length, getD}
-use lib.Dec.{T, eqb}
-use Rattle.graph.specs.Graph.{Graph, graph, Part, Valid, Edge, Chain, stay, step, Reach, edges, from, to}
-use Rattle.graph.specs.Parts.{Fwd, only}
+use lib.ListN.{getD}
+use lib.Dec.{T}
+use Rattle.graph.specs.Graph.{Graph, Part, Valid, Edge, Chain, stay, step, edges, from}
+use Rattle.graph.specs.Parts.{only}
 use Rattle.graph.specs.Search.{looked}
-use Rattle.graph.specs.Limits.{mostVertices, mostEdges}
-use Rattle.graph.specs.Numbers.{tally, many}
-use Rattle.graph.proofs.Chains.{chain-first, chain-last, reach-self, reach-join, reach-edge, reach-wider, edge-from-low, edge-to-low}
+use Rattle.graph.specs.Limits.{mostEdges}
+use Rattle.graph.specs.Numbers.{tally}
+use Rattle.graph.proofs.Chains.{chain-first, chain-last, reach-self, reach-join, reach-edge, reach-wider, edge-to-low}
 use Rattle.graph.proofs.Loops.{search-end}
 use Rattle.graph.proofs.Sums.{tally-ext, tally-plus, many-tally}
 use Rattle.index.specs.Index.{start}
 use Rattle.index.proofs.Counts.{start-suc}
 use Rattle.index.proofs.Degree.{looked-widths}
 use Rattle.index.proofs.Moved.{indexed-kept}
-use Rattle.paint.specs.Colours.{col, que, Opens, opens, Shut, Hit, painted, Kept}
+use Rattle.paint.specs.Colours.{col, que, Opens, opens, Shut, Hit, painted}
 use Rattle.paint.specs.Paint.{queued, waiting, Grew, Ready, VisitAsk, Visited, Laid, leaving, Ahead, LevelAsk, Levelled, Spread, Begun, SearchAsk, Searched}
 use Rattle.paint.proofs.Painting.{opens-T, T-opens}
-use Rattle.paint.proofs.Growth.{queued-none, queued-same, queued-ones, waiting-le, grew-none, grew-more, stays, was-open, ready-more}
+use Rattle.paint.proofs.Growth.{queued-none, queued-same, waiting-le, grew-none, grew-more, stays, was-open, ready-more}
 use Rattle.paint.proofs.Levels.{queued-most}
 
 -- the index stands below what changes
@@ -37,11 +37,11 @@ laid-kept {g} {ix} {b} {w} {w'} k a = record {
 }
 
 -- LEVEL AFTER LEVEL
-module _ (g : Graph) (m : ℕ → ℕ) (ix b : ℕ) (w₀ : List ℕ) (k₀ : ℕ) (a : LevelAsk g m ix b 0 w₀ k₀) where
+module _ {g : Graph} {m : ℕ → ℕ} {ix b : ℕ} {w₀ : List ℕ} {k₀ : ℕ} (a : LevelAsk g m ix b 0 w₀ k₀) where
   pub spread-none : Spread g m b w₀ k₀ 0 w₀ k₀ 0
   spread-none = record { grew = grew-none m (g .n) b w₀ k₀ _; shut = λ v t. absurd (omega (arith, t .3)); looked = sym (queued-none (leaving g) (g .n) b w₀) }
 
-  module _ (h : ℕ) (w : List ℕ) (k seen : ℕ) (z : Spread g m b w₀ k₀ h w k seen) where
+  module _ {h : ℕ} {w : List ℕ} {k seen : ℕ} (z : Spread g m b w₀ k₀ h w k seen) where
     spread-ready : Ready m (g .n) b w k
     spread-ready = ready-more m (g .n) b (z .grew) (a .ready)
 
@@ -59,8 +59,8 @@ module _ (g : Graph) (m : ℕ → ℕ) (ix b : ℕ) (w₀ : List ℕ) (k₀ : �
       ];
     }
 
-    pub spread-step : (w' : List ℕ) (k' e : ℕ) → Levelled g m b h k w k w' k' e → Spread g m b w₀ k₀ k w' k' (seen + e)
-    spread-step w' k' e s = record {
+    pub spread-step : {w' : List ℕ} {k' e : ℕ} → Levelled g m b h k w k w' k' e → Spread g m b w₀ k₀ k w' k' (seen + e)
+    spread-step {w'} {k'} {e} s = record {
       grew = grew-more m (g .n) b (a .ready .still) w₀ k₀ w k w' k' _ _ (Hit g m b (Ahead g b 0 w₀ k₀) w₀) (λ v t. t)
           (λ v l t. enters v (was-open m (g .n) b (z .grew) v l (t .0)) (t .1)) (z .grew) (s .grew);
       shut = λ v t.
@@ -193,9 +193,17 @@ module _ (g : Graph) (m : ℕ → ℕ) (ix b : ℕ) (w₀ : List ℕ) (a : Searc
         kept = grew .kept;
       }
 
-  -- one start
-  pub start-visit : (p : ℕ) → p < g .n → VisitAsk m (g .n) b p w₀ 0
-  start-visit p l = record { ready = empty-ready; vertex = l }
+-- ONE START
+module _ {g : Graph} {m : ℕ → ℕ} {ix b : ℕ} {w₀ : List ℕ} (a : SearchAsk g m ix b w₀) {p : ℕ} (l : p < g .n) where
+  pub start-visit : VisitAsk m (g .n) b p w₀ 0
+  start-visit = record { ready = empty-ready g m ix b w₀ a; vertex = l }
 
-  pub start-begun : (p : ℕ) → p < g .n → (w : List ℕ) (k : ℕ) → Visited m (g .n) b p w₀ 0 w k → Begun g m b (only p) w₀ w k
-  start-begun p l w k s = begun-more (λ v. ⊥) w₀ 0 begun-none (only p) p w k l (λ v t. absurd t) refl (λ v t. inr (sym t)) s
+  module _ {w : List ℕ} {k : ℕ} (s : Visited m (g .n) b p w₀ 0 w k) where
+    start-begun : Begun g m b (only p) w₀ w k
+    start-begun = begun-more g m ix b w₀ a (λ v. ⊥) w₀ 0 (begun-none g m ix b w₀ a) (only p) p w k l (λ v t. absurd t) refl (λ v t. inr (sym t)) s
+
+    pub start-ask : LevelAsk g m ix b 0 w k
+    start-ask = begun-ask g m ix b w₀ a (only p) w k start-begun
+
+    pub start-searched : {w' : List ℕ} {k' seen : ℕ} → Spread g m b w k k' w' k' seen → Searched g m b (only p) w₀ w' k' seen
+    start-searched {w'} {k'} {seen} z = begun-searched g m ix b w₀ a (only p) w k start-begun w' k' seen z

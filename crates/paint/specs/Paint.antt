@@ -1,12 +1,11 @@
 -- What the steps of a search ask for, and what they promise.
-use Prim.Native.Nat.{ℕ, suc, _+_, _≤_, _<_}
+use Prim.Native.Nat.{ℕ, _+_, _≤_, _<_}
 use mathlib.Core.Path.{_≡_}
-use mathlib.Core.Bool.{Bool, true, cond}
+use mathlib.Core.Bool.{true, cond}
 use mathlib.Core.List.{List}
 use mathlib.Core.Logic.{_⊎_}
 use lib.ListN.{length, getD}
-use Rattle.graph.specs.Graph.{Graph, Part, Valid, Edge, edges, from, to}
-use Rattle.graph.specs.Parts.{Fwd}
+use Rattle.graph.specs.Graph.{Graph, Part, Valid, Edge, edges, to}
 use Rattle.graph.specs.Search.{looked}
 use Rattle.graph.specs.Numbers.{tally}
 use Rattle.graph.specs.Limits.{mostVertices, mostEdges}

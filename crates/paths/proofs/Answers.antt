@@ -1,19 +1,18 @@
 -- Which number is given, and that the promise follows from what the search found.
-use Prim.Native.Nat.{ℕ, zero, suc, _+_, _≤_, _<_}
+use Prim.Native.Nat.{ℕ, _≤_, _<_}
 use native.Mathlib.Omega.{arith}
 use native.Mathlib.Nat.{suc-ne-zero}
 use native.Mathlib.Decide.{ℕ-discrete}
-use mathlib.Core.Path.{_≡_, refl, sym, ap, _∙_}
-use mathlib.Core.Logic.{_⊎_, inl, inr, ⊎-elim}
-use mathlib.Core.Bool.{Bool, true, false, cond, _||_}
-use mathlib.Core.List.{List, _++_}
-use lib.ListN.{length, getD, drop}
-use lib.Dec.{ltb, leb}
+use mathlib.Core.Path.{_≡_, refl, sym, _∙_}
+use mathlib.Core.Logic.{_⊎_, ⊎-elim}
+use mathlib.Core.Bool.{Bool, true, false}
+use mathlib.Core.List.{List}
+use lib.ListN.{length}
+use lib.Dec.{leb}
 use borrow.Author.Tests.{lt-ltb, le-ltb, le-leb, lt-leb, ltb-false, leb-false}
 use Rattle.graph.specs.Graph.{Valid}
 use Rattle.graph.specs.Limits.{numbersNeeded, wordsNeeded, memoryShort, vertexOutside, noPath, roomShort}
 use Rattle.graph.specs.Refusal.{given, _or_, tableRefusal}
-use Rattle.graph.specs.Certificate.{distOf}
 use Rattle.graph.specs.Memory.{Zeroed}
 use Rattle.graph.specs.Paths.{Path·of, walk}
 use Rattle.graph.proofs.Refusals.{or-stop, or-pass, or-none, given-none, or-left-none, Passed, table-passed, passed-valid}
@@ -21,7 +20,7 @@ use Rattle.graph.proofs.Distance.{dist-is, dist-reached}
 use Rattle.graph.proofs.Paths.{walk-path, path-least}
 use Rattle.paths.specs.declared.Answer.{Answer}
 use Rattle.paths.specs.declared.Answer.the-variants.{Done, Refused}
-use Rattle.paths.specs.Walk.{base, FindAsk, Known, Prepared, SettleAsk, Found, Stopped, Settled}
+use Rattle.paths.specs.Walk.{FindAsk, Prepared, Settled}
 use Rattle.paths.specs.Promise.{Call, collection, distance, numbersOf, askRefusal, firstRefusal, pathRefusal, Left, Finished, Denied, Promise}
 
 given-most : (k : ℕ) (b : Bool) → k ≤ 10 → given k b ≤ 10

@@ -1,16 +1,16 @@
 -- Distances as colours, and the walk back along them.
-use Prim.Native.Nat.{ℕ, zero, suc, _+_, _-_, _*_, _≤_, _<_}
+use Prim.Native.Nat.{ℕ, suc, _+_, _-_, _≤_, _<_}
 use native.Mathlib.Omega.{arith}
 use native.Mathlib.Decide.{ℕ-discrete, decLt}
 use mathlib.Core.Path.{_≡_, refl, sym, ap, subst, _∙_}
-use mathlib.Core.Logic.{_⊎_, inl, inr, ⊎-elim}
+use mathlib.Core.Logic.{_⊎_, ⊎-elim}
 use mathlib.Core.Bool.{true}
 use mathlib.Core.List.{List, [], _∷_, _++_, append-assoc}
 use lib.ListN.{length, getD, set, drop, length-set, length-append, length-drop, List·getD-append}
-use lib.Seq.{getD-set-same, getD-set-other, getD-append-add, getD-drop, ext-getD}
-use Rattle.graph.specs.Graph.{Graph, Valid, Edge, Chain, Reach, all, edges, from, to}
+use lib.Seq.{getD-set-same, getD-set-other, getD-drop, ext-getD}
+use Rattle.graph.specs.Graph.{Graph, Edge, Chain, all, edges, from, to}
 use Rattle.graph.specs.Parts.{only}
-use Rattle.graph.specs.Limits.{mostVertices, mostEdges, noPath, roomShort}
+use Rattle.graph.specs.Limits.{mostVertices, mostEdges}
 use Rattle.graph.specs.Certificate.{IsDist, distOf}
 use Rattle.graph.specs.Paths.{nearer, walk}
 use Rattle.graph.specs.Memory.{Framed}
@@ -20,12 +20,12 @@ use Rattle.graph.proofs.Chains.{chain-wider, valid-rev, edge-from-low}
 use Rattle.graph.proofs.Distance.{dist-is, dist-low, dist-unique, dist-reached}
 use Rattle.graph.proofs.Nearer.{has-nearer, nearer-is}
 use Rattle.graph.proofs.Paths.{walk-length}
-use Rattle.index.specs.Index.{start, Indexed}
-use Rattle.index.specs.Build.{Column, BothAsk, Both}
+use Rattle.index.specs.Index.{start}
+use Rattle.index.specs.Build.{BothAsk, Both}
 use Rattle.index.proofs.Counts.{start-mono, start-all}
 use Rattle.index.proofs.Moved.{indexed-kept}
-use Rattle.paint.specs.Colours.{col, Kept}
-use Rattle.paint.specs.Paint.{other, Laid}
+use Rattle.paint.specs.Colours.{col}
+use Rattle.paint.specs.Paint.{other}
 use Rattle.paint.specs.Distances.{Nearest, Measured, Has, MeasureAsk}
 use Rattle.paint.proofs.Spreading.{low-chain}
 use Rattle.paths.specs.Walk.{Filled, reverse, base, FindAsk, Known, Prepared, FirstAsk, First, WalkAsk, Walked, SettleAsk}
@@ -54,7 +54,7 @@ module _ (b n a : ℕ) (w₀ : List ℕ) (fits : b + n ≤ length w₀) where
   }
 
 -- THE DISTANCES
-module _ (g : Graph) (u : ℕ) (w : List ℕ) (counts : (e : ℕ) → g .counted e ≡ true) (a : FindAsk g u w) where
+module _ {g : Graph} {u : ℕ} {w : List ℕ} (counts : (e : ℕ) → g .counted e ≡ true) (a : FindAsk g u w) where
   pub both-ask : BothAsk (g .src) (g .tgt) (g .n) w
   both-ask = record {
     forward = record { below = a .valid .from-low; small = omega (arith, a .small); few = omega (arith, a .few) };
@@ -63,11 +63,11 @@ module _ (g : Graph) (u : ℕ) (w : List ℕ) (counts : (e : ℕ) → g .counted
     room = omega (arith, a .room);
   }
 
-  module _ (w₁ : List ℕ) (x : Both (g .src) (g .tgt) (g .n) w w₁) where
+  module _ {w₁ : List ℕ} (x : Both (g .src) (g .tgt) (g .n) w w₁) where
     pub fill-room : base g + g .n ≤ length w₁
     fill-room = omega (arith, a .room, x .long)
 
-    module _ (w₂ : List ℕ) (y : Filled (base g) (g .n) (g .n + 1) w₁ w₂) where
+    module _ {w₂ : List ℕ} (y : Filled (base g) (g .n) (g .n + 1) w₁ w₂) where
       pub measure-ask : MeasureAsk g (g .n + 1) 0 (base g) u w₂
       measure-ask = record {
         laid = record {
@@ -87,8 +87,8 @@ module _ (g : Graph) (u : ℕ) (w : List ℕ) (counts : (e : ℕ) → g .counted
       every : {h v : ℕ} → Chain g all h u v → Chain g (Has (g .n + 1) (base g) w₂) h u v
       every c = chain-wider {g = g} {P = λ v. (v < g .n) × all v} {Q = Has (g .n + 1) (base g) w₂} (λ v t. y .each v (t .0)) (low-chain (a .valid) (a .start) c)
 
-      pub find-all : (w₃ : List ℕ) (k : ℕ) → Measured g (base g) (Has (g .n + 1) (base g) w₂) (only u) w₂ w₃ k → Prepared g u w w₃
-      find-all w₃ k z = record {
+      pub find-all : {w₃ : List ℕ} {k : ℕ} → Measured g (base g) (Has (g .n + 1) (base g) w₂) (only u) w₂ w₃ k → Prepared g u w w₃
+      find-all {w₃} z = record {
         long = z .kept .long ∙ y .frame .long ∙ x .long;
         high = λ j h. z .kept .high j h ∙ y .frame .high j (omega arith) ∙ x .rest j (omega arith);
         known = record {
@@ -118,19 +118,18 @@ module _ (g : Graph) (u : ℕ) (w : List ℕ) (counts : (e : ℕ) → g .counted
               record { chain = rw q c'; shortest = λ h c. t .shortest u h refl (every c) }
 
 -- THE FIRST EDGE THAT FITS
-module _ (sources w : List ℕ) (eb b d i₀ t : ℕ) where
-  -- none of the places before i fits
-  pub record Passing (i : ℕ) : Type 0 where
-    pub low : i₀ ≤ i
-    pub high : i ≤ t
-    pub before : (j : ℕ) → i₀ ≤ j → j < i → col b w (other w eb sources j) ≡ d → ⊥
+-- none of the places before i fits
+pub record Passing (sources w : List ℕ) (eb b d i₀ t i : ℕ) : Type 0 where
+  pub low : i₀ ≤ i
+  pub high : i ≤ t
+  pub before : (j : ℕ) → i₀ ≤ j → j < i → col b w (other w eb sources j) ≡ d → ⊥
 
-  pub pass-step : (i : ℕ) → i < t → (col b w (other w eb sources i) ≡ d → ⊥) → Passing i → Passing (i + 1)
-  pass-step i l o z = record {
-    low = omega (arith, z .low);
-    high = omega arith;
-    before = λ j h q. elim (ℕ-discrete j i) as (λ _. col b w (other w eb sources j) ≡ d → ⊥) [ yes e ↦ rw e o | no e ↦ z .before j h (omega arith) ];
-  }
+pub pass-step : {sources w : List ℕ} {eb b d i₀ t i : ℕ} → i < t → (col b w (other w eb sources i) ≡ d → ⊥) → Passing sources w eb b d i₀ t i → Passing sources w eb b d i₀ t (i + 1)
+pass-step {sources} {w} {eb} {b} {d} {i₀} {t} {i} l o z = record {
+  low = omega (arith, z .low);
+  high = omega arith;
+  before = λ j h q. elim (ℕ-discrete j i) as (λ _. col b w (other w eb sources j) ≡ d → ⊥) [ yes e ↦ rw e o | no e ↦ z .before j h (omega arith) ];
+}
 
 -- BACK FROM V
 -- the walk has come to x, d steps from u; the rest of the path is written
@@ -154,7 +153,7 @@ pub record Turn (g : Graph) (w : List ℕ) (x : ℕ) : Type 0 where
   pub small : g .n ≤ mostVertices
   pub few : edges g ≤ mostEdges
 
-module _ (g : Graph) (u v d₀ : ℕ) (w r₀ : List ℕ) (a : WalkAsk g u v d₀ w r₀) where
+module _ {g : Graph} {u v d₀ : ℕ} {w r₀ : List ℕ} (a : WalkAsk g u v d₀ w r₀) where
   pub walk-none : Walking g u v d₀ r₀ v d₀ r₀
   walk-none = record {
     vertex = a .vertex;
@@ -173,7 +172,7 @@ module _ (g : Graph) (u v d₀ : ℕ) (w r₀ : List ℕ) (a : WalkAsk g u v d�
   abbrev k : Known g u w
   k = a .known
 
-  module _ (x d : ℕ) (r : List ℕ) (z : Walking g u v d₀ r₀ x (suc d) r) where
+  module _ {x d : ℕ} {r : List ℕ} (z : Walking g u v d₀ r₀ x (suc d) r) where
     pub turn : Turn g w x
     turn = record {
       vertex = z .vertex;
@@ -230,7 +229,7 @@ module _ (g : Graph) (u v d₀ : ℕ) (w r₀ : List ℕ) (a : WalkAsk g u v d�
           s .3,
         )
 
-    module _ (i : ℕ) (f : First (g .src) w (reverse g + g .n + 1) (base g) d (start (g .tgt) x) (start (g .tgt) (suc x)) i) where
+    module _ {i : ℕ} (f : First (g .src) w (reverse g + g .n + 1) (base g) d (start (g .tgt) x) (start (g .tgt) (suc x)) i) where
       -- an edge that fits does not stand before place i
       not-before : (e y : ℕ) → Edge g e y x → distOf g u y ≡ d → (j : ℕ) × (i ≤ j) × (j < start (g .tgt) (suc x)) × (getD w (eb + j) 0 ≡ e)
       not-before e y t q =
@@ -287,25 +286,25 @@ module _ (g : Graph) (u v d₀ : ℕ) (w r₀ : List ℕ) (a : WalkAsk g u v d�
             kept = λ j h. getD-set-other r d j e 0 (omega (arith, z .most)) ∙ z .kept j h;
           }
 
-    module _ (i : ℕ) (f : First (g .src) w (reverse g + g .n + 1) (base g) d (getD w (reverse g + x) 0) (getD w (reverse g + x + 1) 0) i) where
+    module _ {i : ℕ} (f : First (g .src) w (reverse g + g .n + 1) (base g) d (getD w (reverse g + x) 0) (getD w (reverse g + x + 1) 0) i) where
       same-first : First (g .src) w (reverse g + g .n + 1) (base g) d (start (g .tgt) x) (start (g .tgt) (suc x)) i
       same-first = rw (turn .begins, turn .ends) at f
 
       -- the edge stands in the index, and comes from a vertex
       pub edge-place : i < edges g
-      edge-place = omega (arith, found i same-first, turn .last)
+      edge-place = omega (arith, found same-first, turn .last)
 
       pub edge-low : getD w (reverse g + g .n + 1 + i) 0 < edges g
-      edge-low = own i same-first .low
+      edge-low = own same-first .low
 
       pub source-low : other w (reverse g + g .n + 1) (g .src) i < g .n
-      source-low = edge-from-low (k .valid) (own i same-first)
+      source-low = edge-from-low (k .valid) (own same-first)
 
       pub walk-step : Walking g u v d₀ r₀ (other w (reverse g + g .n + 1) (g .src) i) d (set r d (getD w (reverse g + g .n + 1 + i) 0))
-      walk-step = own-step i same-first
+      walk-step = own-step same-first
 
-  pub walk-all : (x : ℕ) (r : List ℕ) → Walking g u v d₀ r₀ x 0 r → Walked g u v d₀ r₀ r
-  walk-all x r z =
+  pub walk-all : {x : ℕ} {r : List ℕ} → Walking g u v d₀ r₀ x 0 r → Walked g u v d₀ r₀ r
+  walk-all {r = r} z =
       let p = walk g u d₀ v in
       let l : length p ≡ d₀ = walk-length (k .valid) u (k .start) d₀ v in
       ext-getD 0 r (p ++ drop d₀ r₀) (omega (arith, z .long, length-append p (drop d₀ r₀), length-drop d₀ r₀, a .fits))
@@ -329,29 +328,29 @@ module _ {g : Graph} {u v : ℕ} {w : List ℕ} (a : SettleAsk g u v w) where
   ]
 
 -- a turn of the loop, which counts d down
-module _ (g : Graph) (u v d₀ : ℕ) (w r₀ : List ℕ) (a : WalkAsk g u v d₀ w r₀) (x d : ℕ) (r : List ℕ) (h : 0 < d) (z : Walking g u v d₀ r₀ x d r) where
+module _ {g : Graph} {u v d₀ : ℕ} {w r₀ : List ℕ} (a : WalkAsk g u v d₀ w r₀) {x d : ℕ} {r : List ℕ} (h : 0 < d) (z : Walking g u v d₀ r₀ x d r) where
   down : Walking g u v d₀ r₀ x (suc (d - 1)) r
   down = let e : d ≡ suc (d - 1) = omega arith in subst (λ (y : ℕ). Walking g u v d₀ r₀ x y r) e z
 
   pub back-turn : Turn g w x
-  back-turn = turn g u v d₀ w r₀ a x (d - 1) r down
+  back-turn = turn a down
 
   pub back-ask : FirstAsk (g .src) w (reverse g + g .n + 1) (base g) (getD w (reverse g + x) 0) (getD w (reverse g + x + 1) 0)
-  back-ask = turn-ask g u v d₀ w r₀ a x (d - 1) r down
+  back-ask = turn-ask a down
 
-  module _ (i : ℕ) (f : First (g .src) w (reverse g + g .n + 1) (base g) (d - 1) (getD w (reverse g + x) 0) (getD w (reverse g + x + 1) 0) i) where
+  module _ {i : ℕ} (f : First (g .src) w (reverse g + g .n + 1) (base g) (d - 1) (getD w (reverse g + x) 0) (getD w (reverse g + x + 1) 0) i) where
     pub back-place : i < edges g
-    back-place = edge-place g u v d₀ w r₀ a x (d - 1) r down i f
+    back-place = edge-place a down f
 
     pub back-edge : getD w (reverse g + g .n + 1 + i) 0 < edges g
-    back-edge = edge-low g u v d₀ w r₀ a x (d - 1) r down i f
+    back-edge = edge-low a down f
 
     pub back-source : other w (reverse g + g .n + 1) (g .src) i < g .n
-    back-source = source-low g u v d₀ w r₀ a x (d - 1) r down i f
+    back-source = source-low a down f
 
     pub back-step : Walking g u v d₀ r₀ (other w (reverse g + g .n + 1) (g .src) i) (d - 1) (set r (d - 1) (getD w (reverse g + g .n + 1 + i) 0))
-    back-step = walk-step g u v d₀ w r₀ a x (d - 1) r down i f
+    back-step = walk-step a down f
 
-pub walked-long : (g : Graph) (u v d : ℕ) (w room room' : List ℕ) → WalkAsk g u v d w room → Walked g u v d room room' → length room' ≡ length room
-walked-long g u v d w room room' a z =
+pub walked-long : {g : Graph} {u v d : ℕ} {w room : List ℕ} → WalkAsk g u v d w room → (room' : List ℕ) → Walked g u v d room room' → length room' ≡ length room
+walked-long {g} {u} {v} {d} {room = room} a room' z =
     omega (arith, ap length z, length-append (walk g u d v) (drop d room), length-drop d room, walk-length (a .known .valid) u (a .known .start) d v, a .fits)

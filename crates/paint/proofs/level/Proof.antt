@@ -1,5 +1,5 @@
 use mathlib.Core.Path.{_≡_, subst}
-use Prim.Native.Nat.{ℕ, _≤_, _<_, _+_, _-_}
+use Prim.Native.Nat.{ℕ, _≤_, _-_}
 use native.Mathlib.Omega.{arith}
 use Rattle.graph.specs.Graph.{graph}
 use Rattle.paint.specs.Colours.{paint}
@@ -14,8 +14,10 @@ Inv-loop from to n w₀ ix b a a2 c c2 h k eb q₀ edges₀ i₀ w q edges i = (
 abbrev μ-loop : tie.MeasureT-loop
 μ-loop from to n w₀ ix b a a2 c c2 h k eb q₀ edges₀ i₀ w q edges i = k - i
 
-at : (c : tie.In-loop Inv-loop μ-loop) → Turn (graph (c .before .before .before .before .before .args .n) (c .before .before .before .before .before .args .from .now) (c .before .before .before .before .before .args .to .now)) (c .before .before .before .before .before .args .ix) (c .before .before .before .before .before .args .b) (c .before .loop .w) (c .before .loop .i) (c .before .loop .q) (c .before .loop .edges)
-at c = let s = c .before .before .before .before .before in let l = c .before .loop in turn (graph (s .args .n) (s .args .from .now) (s .args .to .now)) (paint (s .args .a) (s .args .a2) (s .args .c) (s .args .c2)) (s .args .ix) (s .args .b) (s .args .h) (s .args .w .now) (s .args .k) (s .pre) (l .i) (l .w) (l .q) (l .edges) (l .inv .2) (l .inv .0) (c .loop-test .taken)
+-- what the turn reads
+at : (c : tie.In-loop Inv-loop μ-loop)
+    → (let s = c .before .before .before .before .before in let l = c .before .loop in Turn (graph (s .args .n) (s .args .from .now) (s .args .to .now)) (s .args .ix) (s .args .b) (l .w) (l .i) (l .q) (l .edges))
+at c = turn (c .before .before .before .before .before .pre) (c .before .loop .inv .2) (c .before .loop .inv .0) (c .loop-test .taken)
 
 add-eb : tie.Need-add-eb Inv-loop μ-loop
 add-eb c = omega (arith, c .before .before .before .pre .laid .below, c .before .before .before .pre .ready .fits)
@@ -24,7 +26,7 @@ add-eb-2 : tie.Need-add-eb-2 Inv-loop μ-loop
 add-eb-2 c = omega (arith, c .before .before .before .pre .laid .below, c .before .before .before .pre .ready .fits)
 
 loop-holds : tie.Need-loop-holds Inv-loop μ-loop
-loop-holds c = let s = c .before .before .before in (omega arith, s .pre .order, level-none (graph (s .args .n) (s .args .from .now) (s .args .to .now)) (paint (s .args .a) (s .args .a2) (s .args .c) (s .args .c2)) (s .args .ix) (s .args .b) (s .args .h) (s .args .w .now) (s .args .k) (s .pre))
+loop-holds c = (omega arith, c .before .before .before .pre .order, level-none (c .before .before .before .pre))
 
 add-u : tie.Need-add-u Inv-loop μ-loop
 add-u c = omega (arith, at (c), c .loop-test .taken)
@@ -69,7 +71,7 @@ cast-t : tie.Need-cast-t Inv-loop μ-loop
 cast-t c = omega (arith, at (c .before .before .before), c .before .before .before .loop-test .taken)
 
 scan-requires : tie.Need-scan-requires Inv-loop μ-loop
-scan-requires c κs = let s = c .before .before .before .before .before .before .before .before .before in let l = c .before .before .before .before .before .loop in turn-ask (graph (s .args .n) (s .args .from .now) (s .args .to .now)) (paint (s .args .a) (s .args .a2) (s .args .c) (s .args .c2)) (s .args .ix) (s .args .b) (s .args .h) (s .args .w .now) (s .args .k) (s .pre) (l .i) (l .w) (l .q) (l .edges) (l .inv .2) (l .inv .0) (c .before .before .before .before .loop-test .taken)
+scan-requires c κs = turn-ask (c .before .before .before .before .before .before .before .before .before .pre) (c .before .before .before .before .before .loop .inv .2) (c .before .before .before .before .before .loop .inv .0) (c .before .before .before .before .loop-test .taken)
 
 sub-edges : tie.Need-sub-edges Inv-loop μ-loop
 sub-edges c = omega (arith, at (c .before .before .before .before .before .before .before), c .before .before .before .before .before .before .before .loop-test .taken)
@@ -84,7 +86,7 @@ loop-less : tie.Need-loop-less Inv-loop μ-loop
 loop-less c = omega (arith, at (c .before .before .before .before .before .before .before), c .before .before .before .before .before .before .before .loop-test .taken)
 
 loop-again : tie.Need-loop-again Inv-loop μ-loop
-loop-again c = let s = c .before .before .before .before .before .before .before .before .before .before .before .before in let l = c .before .before .before .before .before .before .before .before .loop in (omega arith, omega arith, turn-step (graph (s .args .n) (s .args .from .now) (s .args .to .now)) (paint (s .args .a) (s .args .a2) (s .args .c) (s .args .c2)) (s .args .ix) (s .args .b) (s .args .h) (s .args .w .now) (s .args .k) (s .pre) (l .i) (l .w) (l .q) (l .edges) (l .inv .2) (l .inv .0) (c .before .before .before .before .before .before .before .loop-test .taken) _ _ (c .before .before .scan .ensures))
+loop-again c = (omega arith, omega arith, turn-step (c .before .before .before .before .before .before .before .before .before .before .before .before .pre) (c .before .before .before .before .before .before .before .before .loop .inv .2) (c .before .before .before .before .before .before .before .before .loop .inv .0) (c .before .before .before .before .before .before .before .loop-test .taken) (c .before .before .scan .ensures))
 
 same-length : tie.Need-same-length Inv-loop μ-loop
 same-length c = c .before .loop .inv .2 .grew .kept .long

@@ -14,31 +14,31 @@ abbrev μ-loop : tie.MeasureT-loop
 μ-loop n to w₀ eb i0 t b a a2 c c2 k0 i₀ k₀ w i k = t - i
 
 loop-holds : tie.Need-loop-holds Inv-loop μ-loop
-loop-holds c = let s = c .before .before in (omega arith, s .pre .order, scan-none (paint (s .args .a) (s .args .a2) (s .args .c) (s .args .c2)) (s .args .n) (s .args .b) (s .args .eb) (s .args .to .now) (s .args .i0) (s .args .t) (s .args .w .now) (s .args .k0) (s .pre))
+loop-holds c = (omega arith, c .before .before .pre .order, scan-none (c .before .before .pre))
 
 add-e : tie.Need-add-e Inv-loop μ-loop
-add-e c = let s = c .before .before .before .before in omega (arith, s .pre .below, s .pre .ready .fits)
+add-e c = omega (arith, c .before .before .before .before .pre .below, c .before .before .before .before .pre .ready .fits)
 
 mul-e : tie.Need-mul-e Inv-loop μ-loop
-mul-e c = let s = c .before .before .before .before in omega (arith, s .pre .below, s .pre .ready .fits, c .before .loop .inv .2 .grew .kept .long)
+mul-e c = omega (arith, c .before .before .before .before .pre .below, c .before .before .before .before .pre .ready .fits, c .before .loop .inv .2 .grew .kept .long)
 
 slice-read-e : tie.Need-slice-read-e Inv-loop μ-loop
-slice-read-e c = let s = c .before .before .before .before .before in omega (arith, s .pre .below, s .pre .ready .fits, c .before .before .loop .inv .2 .grew .kept .long)
+slice-read-e c = omega (arith, c .before .before .before .before .before .pre .below, c .before .before .before .before .before .pre .ready .fits, c .before .before .loop .inv .2 .grew .kept .long)
 
 cast-e : tie.Need-cast-e Inv-loop μ-loop
 cast-e c = omega (arith, c .slice-known2 .given (c .before .before .before .before .before .args .eb + c .before .before .loop .i))
 
 mul-x : tie.Need-mul-x Inv-loop μ-loop
-mul-x c = let s = c .before .before .before .before .before in let l = c .before .before .loop in let h = c .before .loop-test .taken in omega (arith, edge-lt (paint (s .args .a) (s .args .a2) (s .args .c) (s .args .c2)) (s .args .n) (s .args .b) (s .args .eb) (s .args .to .now) (s .args .i0) (s .args .t) (s .args .w .now) (s .args .k0) (s .pre) (l .i) (l .w) (l .k) (l .inv .2) (l .inv .0) h)
+mul-x c = omega (arith, edge-lt (c .before .before .before .before .before .pre) (c .before .before .loop .inv .2) (c .before .before .loop .inv .0) (c .before .loop-test .taken))
 
 shared-slice-read-x : tie.Need-shared-slice-read-x Inv-loop μ-loop
-shared-slice-read-x c = let s = c .before .before .before .before .before .before in let l = c .before .before .before .loop in let h = c .before .before .loop-test .taken in omega (arith, edge-lt (paint (s .args .a) (s .args .a2) (s .args .c) (s .args .c2)) (s .args .n) (s .args .b) (s .args .eb) (s .args .to .now) (s .args .i0) (s .args .t) (s .args .w .now) (s .args .k0) (s .pre) (l .i) (l .w) (l .k) (l .inv .2) (l .inv .0) h)
+shared-slice-read-x c = omega (arith, edge-lt (c .before .before .before .before .before .before .pre) (c .before .before .before .loop .inv .2) (c .before .before .before .loop .inv .0) (c .before .before .loop-test .taken))
 
 cast-x : tie.Need-cast-x Inv-loop μ-loop
-cast-x c = let s = c .before .before .before .before .before .before in let l = c .before .before .before .loop in let h = c .before .before .loop-test .taken in omega (arith, other-lt (paint (s .args .a) (s .args .a2) (s .args .c) (s .args .c2)) (s .args .n) (s .args .b) (s .args .eb) (s .args .to .now) (s .args .i0) (s .args .t) (s .args .w .now) (s .args .k0) (s .pre) (l .i) (l .w) (l .k) (l .inv .2) (l .inv .0) h, s .pre .ready .small)
+cast-x c = omega (arith, other-lt (c .before .before .before .before .before .before .pre) (c .before .before .before .loop .inv .2) (c .before .before .before .loop .inv .0) (c .before .before .loop-test .taken), c .before .before .before .before .before .before .pre .ready .small)
 
 visit-requires : tie.Need-visit-requires Inv-loop μ-loop
-visit-requires c κs = let s = c .before .before .before .before .before .before .before in let l = c .before .before .before .before .loop in let h = c .before .before .before .loop-test .taken in scan-ask (paint (s .args .a) (s .args .a2) (s .args .c) (s .args .c2)) (s .args .n) (s .args .b) (s .args .eb) (s .args .to .now) (s .args .i0) (s .args .t) (s .args .w .now) (s .args .k0) (s .pre) (l .i) (l .w) (l .k) (l .inv .2) (l .inv .0) h
+visit-requires c κs = scan-ask (c .before .before .before .before .before .before .before .pre) (c .before .before .before .before .loop .inv .2) (c .before .before .before .before .loop .inv .0) (c .before .before .before .loop-test .taken)
 
 add-i : tie.Need-add-i Inv-loop μ-loop
 add-i c = omega arith
@@ -47,7 +47,7 @@ loop-less : tie.Need-loop-less Inv-loop μ-loop
 loop-less c = omega arith
 
 loop-again : tie.Need-loop-again Inv-loop μ-loop
-loop-again c = let s = c .before .before .before .before .before .before .before .before .before .before in let l = c .before .before .before .before .before .before .before .loop in let h = c .before .before .before .before .before .before .loop-test .taken in (omega arith, omega arith, scan-step (paint (s .args .a) (s .args .a2) (s .args .c) (s .args .c2)) (s .args .n) (s .args .b) (s .args .eb) (s .args .to .now) (s .args .i0) (s .args .t) (s .args .w .now) (s .args .k0) (s .pre) (l .i) (l .w) (l .k) (l .inv .2) (l .inv .0) h _ _ (c .before .before .visit .ensures))
+loop-again c = (omega arith, omega arith, scan-step (c .before .before .before .before .before .before .before .before .before .before .pre) (c .before .before .before .before .before .before .before .loop .inv .2) (c .before .before .before .before .before .before .before .loop .inv .0) (c .before .before .before .before .before .before .loop-test .taken) (c .before .before .visit .ensures))
 
 same-length : tie.Need-same-length Inv-loop μ-loop
 same-length c = c .before .loop .inv .2 .grew .kept .long

@@ -15,19 +15,20 @@ abbrev μ-loop : tie.MeasureT-loop
 μ-loop from to n w₀ ix b a a2 c c2 k0 h₀ k₀ edges₀ w h k edges = n - h
 
 loop-holds : tie.Need-loop-holds Inv-loop μ-loop
-loop-holds c = let s = c .before .before .before in (omega arith, spread-none (graph (s .args .n) (s .args .from .now) (s .args .to .now)) (paint (s .args .a) (s .args .a2) (s .args .c) (s .args .c2)) (s .args .ix) (s .args .b) (s .args .w .now) (s .args .k0) (s .pre))
+loop-holds c = (omega arith, spread-none (c .before .before .before .pre))
 
 level-requires : tie.Need-level-requires Inv-loop μ-loop
-level-requires c κs = let s = c .before .before .before .before .before .before in let l = c .before .before .loop in spread-ask (graph (s .args .n) (s .args .from .now) (s .args .to .now)) (paint (s .args .a) (s .args .a2) (s .args .c) (s .args .c2)) (s .args .ix) (s .args .b) (s .args .w .now) (s .args .k0) (s .pre) (l .h) (l .w) (l .k) (l .edges) (l .inv .1) (l .inv .0)
+level-requires c κs = spread-ask (c .before .before .before .before .before .before .pre) (c .before .before .loop .inv .1) (c .before .before .loop .inv .0)
 
 add-edges : tie.Need-add-edges Inv-loop μ-loop
-add-edges c = let s = c .before .before .before .before .before .before .before .before .before .before in let l = c .before .before .before .before .before .before .loop in omega (arith, s .pre .ready .small, spread-few (graph (s .args .n) (s .args .from .now) (s .args .to .now)) (paint (s .args .a) (s .args .a2) (s .args .c) (s .args .c2)) (s .args .ix) (s .args .b) (s .args .w .now) (s .args .k0) (s .pre) (l .h) (l .w) (l .k) (l .edges) (l .inv .1), spread-room (graph (s .args .n) (s .args .from .now) (s .args .to .now)) (paint (s .args .a) (s .args .a2) (s .args .c) (s .args .c2)) (s .args .ix) (s .args .b) (s .args .w .now) (s .args .k0) (s .pre) (l .k) _ _ _ (spread-step (graph (s .args .n) (s .args .from .now) (s .args .to .now)) (paint (s .args .a) (s .args .a2) (s .args .c) (s .args .c2)) (s .args .ix) (s .args .b) (s .args .w .now) (s .args .k0) (s .pre) (l .h) (l .w) (l .k) (l .edges) (l .inv .1) _ _ _ (c .before .before .before .level .ensures)))
+add-edges c = let next = spread-step (c .before .before .before .before .before .before .before .before .before .before .pre) (c .before .before .before .before .before .before .loop .inv .1) (c .before .before .before .level .ensures) in
+    omega (arith, c .before .before .before .before .before .before .before .before .before .before .pre .ready .small, spread-few (c .before .before .before .before .before .before .before .before .before .before .pre) (c .before .before .before .before .before .before .loop .inv .1), spread-room (c .before .before .before .before .before .before .before .before .before .before .pre) next)
 
 loop-less : tie.Need-loop-less Inv-loop μ-loop
-loop-less c = let s = c .before .before .before .before .before .before .before .before .before .before in let l = c .before .before .before .before .before .before .loop in omega (arith, c .before .before .before .before .before .loop-test .taken, spread-few (graph (s .args .n) (s .args .from .now) (s .args .to .now)) (paint (s .args .a) (s .args .a2) (s .args .c) (s .args .c2)) (s .args .ix) (s .args .b) (s .args .w .now) (s .args .k0) (s .pre) (l .h) (l .w) (l .k) (l .edges) (l .inv .1))
+loop-less c = omega (arith, c .before .before .before .before .before .loop-test .taken, spread-few (c .before .before .before .before .before .before .before .before .before .before .pre) (c .before .before .before .before .before .before .loop .inv .1))
 
 loop-again : tie.Need-loop-again Inv-loop μ-loop
-loop-again c = let s = c .before .before .before .before .before .before .before .before .before .before in let l = c .before .before .before .before .before .before .loop in (c .before .before .before .level .ensures .grew .more, spread-step (graph (s .args .n) (s .args .from .now) (s .args .to .now)) (paint (s .args .a) (s .args .a2) (s .args .c) (s .args .c2)) (s .args .ix) (s .args .b) (s .args .w .now) (s .args .k0) (s .pre) (l .h) (l .w) (l .k) (l .edges) (l .inv .1) _ _ _ (c .before .before .before .level .ensures))
+loop-again c = (c .before .before .before .level .ensures .grew .more, spread-step (c .before .before .before .before .before .before .before .before .before .before .pre) (c .before .before .before .before .before .before .loop .inv .1) (c .before .before .before .level .ensures))
 
 same-length : tie.Need-same-length Inv-loop μ-loop
 same-length c = c .before .loop .inv .1 .grew .kept .long

@@ -1,4 +1,4 @@
-use Prim.Native.Nat.{ℕ, _≤_, _-_}
+use Prim.Native.Nat.{_-_}
 use native.Mathlib.Omega.{arith}
 use Rattle.graph.specs.Graph.{graph}
 use Rattle.paint.specs.Distances.{Queued, HasOr}
@@ -13,31 +13,31 @@ abbrev μ-loop : tie.MeasureT-loop
 μ-loop from to n w₀ ix b a k0 h₀ k₀ d₀ w h k d = n - h
 
 loop-holds : tie.Need-loop-holds Inv-loop μ-loop
-loop-holds c = let s = c .before .before .before in rounds-none (graph (s .args .n) (s .args .from .now) (s .args .to .now)) (s .args .a) (s .args .ix) (s .args .b) (s .args .w .now) (s .args .k0) (s .pre)
+loop-holds c = rounds-none (c .before .before .before .pre)
 
 add-level : tie.Need-add-level Inv-loop μ-loop
-add-level c = let s = c .before .before .before .before .before .before in let l = c .before .before .loop in omega (arith, c .before .loop-test .taken, s .pre .level .ready .small, l .inv .order .0, rounds-few (graph (s .args .n) (s .args .from .now) (s .args .to .now)) (s .args .a) (s .args .ix) (s .args .b) (s .args .w .now) (s .args .k0) (s .pre) (l .d) (l .h) (l .w) (l .k) (l .inv))
+add-level c = omega (arith, c .before .loop-test .taken, c .before .before .before .before .before .before .pre .level .ready .small, c .before .before .loop .inv .order .0, rounds-few (c .before .before .before .before .before .before .pre) (c .before .before .loop .inv))
 
 add-level-2 : tie.Need-add-level-2 Inv-loop μ-loop
-add-level-2 c = let s = c .before .before .before .before .before .before in let l = c .before .before .loop in omega (arith, c .before .loop-test .taken, s .pre .level .ready .small, l .inv .order .0, rounds-few (graph (s .args .n) (s .args .from .now) (s .args .to .now)) (s .args .a) (s .args .ix) (s .args .b) (s .args .w .now) (s .args .k0) (s .pre) (l .d) (l .h) (l .w) (l .k) (l .inv))
+add-level-2 c = omega (arith, c .before .loop-test .taken, c .before .before .before .before .before .before .pre .level .ready .small, c .before .before .loop .inv .order .0, rounds-few (c .before .before .before .before .before .before .pre) (c .before .before .loop .inv))
 
 level-requires : tie.Need-level-requires Inv-loop μ-loop
-level-requires c κs = let s = c .before .before .before .before .before .before in let l = c .before .before .loop in rounds-ask (graph (s .args .n) (s .args .from .now) (s .args .to .now)) (s .args .a) (s .args .ix) (s .args .b) (s .args .w .now) (s .args .k0) (s .pre) (l .d) (l .h) (l .w) (l .k) (l .inv) (c .before .loop-test .taken)
+level-requires c κs = rounds-ask (c .before .before .before .before .before .before .pre) (c .before .before .loop .inv) (c .before .loop-test .taken)
 
 add-d : tie.Need-add-d Inv-loop μ-loop
-add-d c = let s = c .before .before .before .before .before .before .before .before .before in let l = c .before .before .before .before .before .loop in omega (arith, c .before .before .before .before .loop-test .taken, s .pre .level .ready .small, l .inv .order .0, rounds-few (graph (s .args .n) (s .args .from .now) (s .args .to .now)) (s .args .a) (s .args .ix) (s .args .b) (s .args .w .now) (s .args .k0) (s .pre) (l .d) (l .h) (l .w) (l .k) (l .inv))
+add-d c = omega (arith, c .before .before .before .before .loop-test .taken, c .before .before .before .before .before .before .before .before .before .pre .level .ready .small, c .before .before .before .before .before .loop .inv .order .0, rounds-few (c .before .before .before .before .before .before .before .before .before .pre) (c .before .before .before .before .before .loop .inv))
 
 loop-less : tie.Need-loop-less Inv-loop μ-loop
-loop-less c = let s = c .before .before .before .before .before .before .before .before .before in let l = c .before .before .before .before .before .loop in omega (arith, c .before .before .before .before .loop-test .taken, rounds-few (graph (s .args .n) (s .args .from .now) (s .args .to .now)) (s .args .a) (s .args .ix) (s .args .b) (s .args .w .now) (s .args .k0) (s .pre) (l .d) (l .h) (l .w) (l .k) (l .inv))
+loop-less c = omega (arith, c .before .before .before .before .loop-test .taken, rounds-few (c .before .before .before .before .before .before .before .before .before .pre) (c .before .before .before .before .before .loop .inv))
 
 loop-again : tie.Need-loop-again Inv-loop μ-loop
-loop-again c = let s = c .before .before .before .before .before .before .before .before .before in let l = c .before .before .before .before .before .loop in rounds-step (graph (s .args .n) (s .args .from .now) (s .args .to .now)) (s .args .a) (s .args .ix) (s .args .b) (s .args .w .now) (s .args .k0) (s .pre) (l .d) (l .h) (l .w) (l .k) (l .inv) (c .before .before .before .before .loop-test .taken) _ _ _ (c .before .before .level .ensures)
+loop-again c = rounds-step (c .before .before .before .before .before .before .before .before .before .pre) (c .before .before .before .before .before .loop .inv) (c .before .before .before .before .loop-test .taken) (c .before .before .level .ensures)
 
 same-length : tie.Need-same-length Inv-loop μ-loop
 same-length c = c .before .loop .inv .kept .long
 
 returns : tie.Need-returns Inv-loop μ-loop
-returns c = let s = c .before .before .before .before .before in let l = c .before .loop in rounds-all (graph (s .args .n) (s .args .from .now) (s .args .to .now)) (s .args .a) (s .args .ix) (s .args .b) (s .args .w .now) (s .args .k0) (s .pre) (l .d) (l .h) (l .w) (l .k) (l .inv) (c .loop-test .left)
+returns c = rounds-all (c .before .before .before .before .before .pre) (c .before .loop .inv) (c .loop-test .left)
 
 pub rounds-spec : {M : Type 1} → statement M
 rounds-spec =

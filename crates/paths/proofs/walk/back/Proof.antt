@@ -1,8 +1,10 @@
-use Prim.Native.Nat.{ℕ, _+_, _-_}
+use Prim.Native.Nat.{ℕ, _+_, _<_}
 use mathlib.Core.Path.{_≡_, subst}
 use native.Mathlib.Omega.{arith}
+use lib.ListN.{length, getD}
 use Rattle.graph.specs.Graph.{graph}
-use Rattle.paths.proofs.Walks.{Walking, walk-none, back-turn, back-ask, back-place, back-edge, back-source, back-step, walk-all}
+use Rattle.paths.specs.Walk.{reverse}
+use Rattle.paths.proofs.Walks.{Walking, Turn, walk-none, back-turn, back-ask, back-place, back-edge, back-source, back-step, walk-all}
 use Rattle.paths.proofs.walk.back.Statement.{statement}
 use Rattle.paths.proofs.walk.back.Tie as tie
 
@@ -11,6 +13,22 @@ Inv-loop n sources targets u v w d0 room₀ rx eb x₀ d₀ room x d = Walking (
 
 abbrev μ-loop : tie.MeasureT-loop
 μ-loop n sources targets u v w d0 room₀ rx eb x₀ d₀ room x d = d
+
+-- what the turn reads
+at : (c : tie.In-loop Inv-loop μ-loop) → (let s = c .before .before .before .before .before .before in Turn (graph (s .args .n) (s .args .sources .now) (s .args .targets .now)) (s .args .w .now) (c .before .loop .x))
+at c = back-turn (c .before .before .before .before .before .before .pre) (c .loop-test .taken) (c .before .loop .inv)
+
+-- the place of the edge that was found, the edge, and its source
+place : (c : tie.After-first Inv-loop μ-loop) → c .first .result < length (c .before .before .before .before .before .before .before .before .before .args .sources .now)
+place c = back-place (c .before .before .before .before .before .before .before .before .before .pre) (c .before .before .before .loop-test .taken) (c .before .before .before .before .loop .inv) (c .first .ensures)
+
+edge : (c : tie.After-first Inv-loop μ-loop)
+    → (let s = c .before .before .before .before .before .before .before .before .before in getD (s .args .w .now) (reverse (graph (s .args .n) (s .args .sources .now) (s .args .targets .now)) + s .args .n + 1 + c .first .result) 0 < length (s .args .sources .now))
+edge c = back-edge (c .before .before .before .before .before .before .before .before .before .pre) (c .before .before .before .loop-test .taken) (c .before .before .before .before .loop .inv) (c .first .ensures)
+
+source : (c : tie.After-first Inv-loop μ-loop)
+    → (let s = c .before .before .before .before .before .before .before .before .before in getD (s .args .sources .now) (getD (s .args .w .now) (reverse (graph (s .args .n) (s .args .sources .now) (s .args .targets .now)) + s .args .n + 1 + c .first .result) 0) 0 < s .args .n)
+source c = back-source (c .before .before .before .before .before .before .before .before .before .pre) (c .before .before .before .loop-test .taken) (c .before .before .before .before .loop .inv) (c .first .ensures)
 
 add-rx : tie.Need-add-rx Inv-loop μ-loop
 add-rx c = omega (arith, c .before .before .before .before .pre .known .room)
@@ -25,76 +43,76 @@ add-eb-2 : tie.Need-add-eb-2 Inv-loop μ-loop
 add-eb-2 c = omega (arith, c .before .before .before .before .pre .known .room)
 
 loop-holds : tie.Need-loop-holds Inv-loop μ-loop
-loop-holds c = let s = c .before .before .before .before in walk-none (graph (s .args .n) (s .args .sources .now) (s .args .targets .now)) (s .args .u) (s .args .v) (s .args .d0) (s .args .w .now) (s .args .room .now) (s .pre)
+loop-holds c = walk-none (c .before .before .before .before .pre)
 
 sub-d : tie.Need-sub-d Inv-loop μ-loop
 sub-d c = omega arith
 
 add-s : tie.Need-add-s Inv-loop μ-loop
-add-s c = let s = c .before .before .before .before .before .before in let l = c .before .loop in omega (arith, back-turn (graph (s .args .n) (s .args .sources .now) (s .args .targets .now)) (s .args .u) (s .args .v) (s .args .d0) (s .args .w .now) (s .args .room .now) (s .pre) (l .x) (l .d) (l .room) (c .loop-test .taken) (l .inv))
+add-s c = omega (arith, at (c))
 
 mul-s : tie.Need-mul-s Inv-loop μ-loop
-mul-s c = let s = c .before .before .before .before .before .before in let l = c .before .loop in omega (arith, back-turn (graph (s .args .n) (s .args .sources .now) (s .args .targets .now)) (s .args .u) (s .args .v) (s .args .d0) (s .args .w .now) (s .args .room .now) (s .pre) (l .x) (l .d) (l .room) (c .loop-test .taken) (l .inv))
+mul-s c = omega (arith, at (c))
 
 shared-slice-read-s : tie.Need-shared-slice-read-s Inv-loop μ-loop
-shared-slice-read-s c = let s = c .before .before .before .before .before .before .before in let l = c .before .before .loop in omega (arith, back-turn (graph (s .args .n) (s .args .sources .now) (s .args .targets .now)) (s .args .u) (s .args .v) (s .args .d0) (s .args .w .now) (s .args .room .now) (s .pre) (l .x) (l .d) (l .room) (c .before .loop-test .taken) (l .inv))
+shared-slice-read-s c = omega (arith, at (c .before))
 
 cast-s : tie.Need-cast-s Inv-loop μ-loop
-cast-s c = let s = c .before .before .before .before .before .before .before in let l = c .before .before .loop in omega (arith, back-turn (graph (s .args .n) (s .args .sources .now) (s .args .targets .now)) (s .args .u) (s .args .v) (s .args .d0) (s .args .w .now) (s .args .room .now) (s .pre) (l .x) (l .d) (l .room) (c .before .loop-test .taken) (l .inv))
+cast-s c = omega (arith, at (c .before))
 
 add-t : tie.Need-add-t Inv-loop μ-loop
-add-t c = let s = c .before .before .before .before .before .before .before in let l = c .before .before .loop in omega (arith, back-turn (graph (s .args .n) (s .args .sources .now) (s .args .targets .now)) (s .args .u) (s .args .v) (s .args .d0) (s .args .w .now) (s .args .room .now) (s .pre) (l .x) (l .d) (l .room) (c .before .loop-test .taken) (l .inv))
+add-t c = omega (arith, at (c .before))
 
 add-t-2 : tie.Need-add-t-2 Inv-loop μ-loop
-add-t-2 c = let s = c .before .before .before .before .before .before .before in let l = c .before .before .loop in omega (arith, back-turn (graph (s .args .n) (s .args .sources .now) (s .args .targets .now)) (s .args .u) (s .args .v) (s .args .d0) (s .args .w .now) (s .args .room .now) (s .pre) (l .x) (l .d) (l .room) (c .before .loop-test .taken) (l .inv))
+add-t-2 c = omega (arith, at (c .before))
 
 mul-t : tie.Need-mul-t Inv-loop μ-loop
-mul-t c = let s = c .before .before .before .before .before .before .before in let l = c .before .before .loop in omega (arith, back-turn (graph (s .args .n) (s .args .sources .now) (s .args .targets .now)) (s .args .u) (s .args .v) (s .args .d0) (s .args .w .now) (s .args .room .now) (s .pre) (l .x) (l .d) (l .room) (c .before .loop-test .taken) (l .inv))
+mul-t c = omega (arith, at (c .before))
 
 shared-slice-read-t : tie.Need-shared-slice-read-t Inv-loop μ-loop
-shared-slice-read-t c = let s = c .before .before .before .before .before .before .before .before in let l = c .before .before .before .loop in omega (arith, back-turn (graph (s .args .n) (s .args .sources .now) (s .args .targets .now)) (s .args .u) (s .args .v) (s .args .d0) (s .args .w .now) (s .args .room .now) (s .pre) (l .x) (l .d) (l .room) (c .before .before .loop-test .taken) (l .inv))
+shared-slice-read-t c = omega (arith, at (c .before .before))
 
 cast-t : tie.Need-cast-t Inv-loop μ-loop
-cast-t c = let s = c .before .before .before .before .before .before .before .before in let l = c .before .before .before .loop in omega (arith, back-turn (graph (s .args .n) (s .args .sources .now) (s .args .targets .now)) (s .args .u) (s .args .v) (s .args .d0) (s .args .w .now) (s .args .room .now) (s .pre) (l .x) (l .d) (l .room) (c .before .before .loop-test .taken) (l .inv))
+cast-t c = omega (arith, at (c .before .before))
 
 mul-first : tie.Need-mul-first Inv-loop μ-loop
-mul-first c = let s = c .before .before .before .before .before .before .before .before in let l = c .before .before .before .loop in omega (arith, back-turn (graph (s .args .n) (s .args .sources .now) (s .args .targets .now)) (s .args .u) (s .args .v) (s .args .d0) (s .args .w .now) (s .args .room .now) (s .pre) (l .x) (l .d) (l .room) (c .before .before .loop-test .taken) (l .inv))
+mul-first c = omega (arith, at (c .before .before))
 
 first-requires : tie.Need-first-requires Inv-loop μ-loop
-first-requires c κs = let s = c .before .before .before .before .before .before .before .before in let l = c .before .before .before .loop in back-ask (graph (s .args .n) (s .args .sources .now) (s .args .targets .now)) (s .args .u) (s .args .v) (s .args .d0) (s .args .w .now) (s .args .room .now) (s .pre) (l .x) (l .d) (l .room) (c .before .before .loop-test .taken) (l .inv)
+first-requires c κs = back-ask (c .before .before .before .before .before .before .before .before .pre) (c .before .before .loop-test .taken) (c .before .before .before .loop .inv)
 
 add-e : tie.Need-add-e Inv-loop μ-loop
-add-e c = let s = c .before .before .before .before .before .before .before .before .before in let l = c .before .before .before .before .loop in omega (arith, back-turn (graph (s .args .n) (s .args .sources .now) (s .args .targets .now)) (s .args .u) (s .args .v) (s .args .d0) (s .args .w .now) (s .args .room .now) (s .pre) (l .x) (l .d) (l .room) (c .before .before .before .loop-test .taken) (l .inv), back-place (graph (s .args .n) (s .args .sources .now) (s .args .targets .now)) (s .args .u) (s .args .v) (s .args .d0) (s .args .w .now) (s .args .room .now) (s .pre) (l .x) (l .d) (l .room) (c .before .before .before .loop-test .taken) (l .inv) _ (c .first .ensures))
+add-e c = omega (arith, at (c .before .before .before), place (c))
 
 mul-e : tie.Need-mul-e Inv-loop μ-loop
-mul-e c = let s = c .before .before .before .before .before .before .before .before .before in let l = c .before .before .before .before .loop in omega (arith, back-turn (graph (s .args .n) (s .args .sources .now) (s .args .targets .now)) (s .args .u) (s .args .v) (s .args .d0) (s .args .w .now) (s .args .room .now) (s .pre) (l .x) (l .d) (l .room) (c .before .before .before .loop-test .taken) (l .inv), back-place (graph (s .args .n) (s .args .sources .now) (s .args .targets .now)) (s .args .u) (s .args .v) (s .args .d0) (s .args .w .now) (s .args .room .now) (s .pre) (l .x) (l .d) (l .room) (c .before .before .before .loop-test .taken) (l .inv) _ (c .first .ensures))
+mul-e c = omega (arith, at (c .before .before .before), place (c))
 
 shared-slice-read-e : tie.Need-shared-slice-read-e Inv-loop μ-loop
-shared-slice-read-e c = let s = c .before .before .before .before .before .before .before .before .before .before in let l = c .before .before .before .before .before .loop in omega (arith, back-turn (graph (s .args .n) (s .args .sources .now) (s .args .targets .now)) (s .args .u) (s .args .v) (s .args .d0) (s .args .w .now) (s .args .room .now) (s .pre) (l .x) (l .d) (l .room) (c .before .before .before .before .loop-test .taken) (l .inv), back-place (graph (s .args .n) (s .args .sources .now) (s .args .targets .now)) (s .args .u) (s .args .v) (s .args .d0) (s .args .w .now) (s .args .room .now) (s .pre) (l .x) (l .d) (l .room) (c .before .before .before .before .loop-test .taken) (l .inv) _ (c .before .first .ensures))
+shared-slice-read-e c = omega (arith, at (c .before .before .before .before), place (c .before))
 
 mul-room : tie.Need-mul-room Inv-loop μ-loop
-mul-room c = let s = c .before .before .before .before .before .before .before .before .before .before in let l = c .before .before .before .before .before .loop in omega (arith, l .inv .most, l .inv .long, s .pre .fits, c .before .before .before .before .loop-test .taken)
+mul-room c = omega (arith, c .before .before .before .before .before .loop .inv .most, c .before .before .before .before .before .loop .inv .long, c .before .before .before .before .before .before .before .before .before .before .pre .fits, c .before .before .before .before .loop-test .taken)
 
 slice-write-room : tie.Need-slice-write-room Inv-loop μ-loop
-slice-write-room c = let s = c .before .before .before .before .before .before .before .before .before .before in let l = c .before .before .before .before .before .loop in omega (arith, l .inv .most, l .inv .long, s .pre .fits, c .before .before .before .before .loop-test .taken)
+slice-write-room c = omega (arith, c .before .before .before .before .before .loop .inv .most, c .before .before .before .before .before .loop .inv .long, c .before .before .before .before .before .before .before .before .before .before .pre .fits, c .before .before .before .before .loop-test .taken)
 
 cast-x : tie.Need-cast-x Inv-loop μ-loop
-cast-x c = let s = c .before .before .before .before .before .before .before .before .before .before in let l = c .before .before .before .before .before .loop in omega (arith, back-turn (graph (s .args .n) (s .args .sources .now) (s .args .targets .now)) (s .args .u) (s .args .v) (s .args .d0) (s .args .w .now) (s .args .room .now) (s .pre) (l .x) (l .d) (l .room) (c .before .before .before .before .loop-test .taken) (l .inv), back-edge (graph (s .args .n) (s .args .sources .now) (s .args .targets .now)) (s .args .u) (s .args .v) (s .args .d0) (s .args .w .now) (s .args .room .now) (s .pre) (l .x) (l .d) (l .room) (c .before .before .before .before .loop-test .taken) (l .inv) _ (c .before .first .ensures))
+cast-x c = omega (arith, at (c .before .before .before .before), edge (c .before))
 
 mul-x : tie.Need-mul-x Inv-loop μ-loop
-mul-x c = let s = c .before .before .before .before .before .before .before .before .before .before in let l = c .before .before .before .before .before .loop in omega (arith, back-turn (graph (s .args .n) (s .args .sources .now) (s .args .targets .now)) (s .args .u) (s .args .v) (s .args .d0) (s .args .w .now) (s .args .room .now) (s .pre) (l .x) (l .d) (l .room) (c .before .before .before .before .loop-test .taken) (l .inv), back-edge (graph (s .args .n) (s .args .sources .now) (s .args .targets .now)) (s .args .u) (s .args .v) (s .args .d0) (s .args .w .now) (s .args .room .now) (s .pre) (l .x) (l .d) (l .room) (c .before .before .before .before .loop-test .taken) (l .inv) _ (c .before .first .ensures))
+mul-x c = omega (arith, at (c .before .before .before .before), edge (c .before))
 
 shared-slice-read-x : tie.Need-shared-slice-read-x Inv-loop μ-loop
-shared-slice-read-x c = let s = c .before .before .before .before .before .before .before .before .before .before .before in let l = c .before .before .before .before .before .before .loop in omega (arith, back-turn (graph (s .args .n) (s .args .sources .now) (s .args .targets .now)) (s .args .u) (s .args .v) (s .args .d0) (s .args .w .now) (s .args .room .now) (s .pre) (l .x) (l .d) (l .room) (c .before .before .before .before .before .loop-test .taken) (l .inv), back-edge (graph (s .args .n) (s .args .sources .now) (s .args .targets .now)) (s .args .u) (s .args .v) (s .args .d0) (s .args .w .now) (s .args .room .now) (s .pre) (l .x) (l .d) (l .room) (c .before .before .before .before .before .loop-test .taken) (l .inv) _ (c .before .before .first .ensures))
+shared-slice-read-x c = omega (arith, at (c .before .before .before .before .before), edge (c .before .before))
 
 cast-x-2 : tie.Need-cast-x-2 Inv-loop μ-loop
-cast-x-2 c = let s = c .before .before .before .before .before .before .before .before .before .before .before in let l = c .before .before .before .before .before .before .loop in omega (arith, back-turn (graph (s .args .n) (s .args .sources .now) (s .args .targets .now)) (s .args .u) (s .args .v) (s .args .d0) (s .args .w .now) (s .args .room .now) (s .pre) (l .x) (l .d) (l .room) (c .before .before .before .before .before .loop-test .taken) (l .inv), back-source (graph (s .args .n) (s .args .sources .now) (s .args .targets .now)) (s .args .u) (s .args .v) (s .args .d0) (s .args .w .now) (s .args .room .now) (s .pre) (l .x) (l .d) (l .room) (c .before .before .before .before .before .loop-test .taken) (l .inv) _ (c .before .before .first .ensures))
+cast-x-2 c = omega (arith, at (c .before .before .before .before .before), source (c .before .before))
 
 loop-less : tie.Need-loop-less Inv-loop μ-loop
 loop-less c = omega arith
 
 loop-again : tie.Need-loop-again Inv-loop μ-loop
-loop-again c = let s = c .before .before .before .before .before .before .before .before .before .before .before in let l = c .before .before .before .before .before .before .loop in back-step (graph (s .args .n) (s .args .sources .now) (s .args .targets .now)) (s .args .u) (s .args .v) (s .args .d0) (s .args .w .now) (s .args .room .now) (s .pre) (l .x) (l .d) (l .room) (c .before .before .before .before .before .loop-test .taken) (l .inv) _ (c .before .before .first .ensures)
+loop-again c = back-step (c .before .before .before .before .before .before .before .before .before .before .before .pre) (c .before .before .before .before .before .loop-test .taken) (c .before .before .before .before .before .before .loop .inv) (c .before .before .first .ensures)
 
 same-length : tie.Need-same-length Inv-loop μ-loop
 same-length c = c .before .loop .inv .long
@@ -103,7 +121,7 @@ returns : tie.Need-returns Inv-loop μ-loop
 returns c = let s = c .before .before .before .before .before .before in
     let l = c .before .loop in
     let e : l .d ≡ 0 = omega arith in
-    walk-all (graph (s .args .n) (s .args .sources .now) (s .args .targets .now)) (s .args .u) (s .args .v) (s .args .d0) (s .args .w .now) (s .args .room .now) (s .pre) (l .x) (l .room) (subst (λ (y : ℕ). Walking (graph (s .args .n) (s .args .sources .now) (s .args .targets .now)) (s .args .u) (s .args .v) (s .args .d0) (s .args .room .now) (l .x) y (l .room)) e (l .inv))
+    walk-all (s .pre) (subst (λ (y : ℕ). Walking (graph (s .args .n) (s .args .sources .now) (s .args .targets .now)) (s .args .u) (s .args .v) (s .args .d0) (s .args .room .now) (l .x) y (l .room)) e (l .inv))
 
 pub back-spec : {M : Type 1} → statement M
 back-spec =

@@ -1,8 +1,6 @@
-use Prim.Native.Nat.{ℕ, _≤_, _-_}
-use mathlib.Core.Path.{_≡_, subst}
+use Prim.Native.Nat.{_≤_, _-_}
+use mathlib.Core.Path.{_≡_}
 use native.Mathlib.Omega.{arith}
-use lib.ListN.{length-set}
-use Rattle.paths.specs.Walk.{Filled}
 use Rattle.paths.proofs.Walks.{Filling, fill-none, fill-step}
 use Rattle.paths.proofs.walk.fill.Statement.{statement}
 use Rattle.paths.proofs.walk.fill.Tie as tie

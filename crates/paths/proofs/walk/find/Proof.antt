@@ -1,13 +1,11 @@
 use mathlib.Core.Path.{refl}
-use native.Mathlib.Omega.{arith}
 use borrow.Author.Needs.{needs}
-use Rattle.graph.specs.Graph.{graph}
 use Rattle.paths.proofs.Walks.{both-ask, fill-room, measure-ask, find-all}
 use Rattle.paths.proofs.walk.find.Statement.{statement}
 use Rattle.paths.proofs.walk.find.Tie as tie
 
 both-requires : tie.Need-both-requires
-both-requires c κs = let s = c .before .before .before .before in both-ask (graph (s .args .n) (s .args .sources .now) (s .args .targets .now)) (s .args .u) (s .args .w .now) (λ e. refl) (s .pre)
+both-requires c κs = both-ask (λ e. refl) (c .before .before .before .before .pre)
 
 add-b : tie.Need-add-b
 add-b c = search needs
@@ -25,16 +23,16 @@ cast-far : tie.Need-cast-far
 cast-far c = search needs
 
 fill-requires : tie.Need-fill-requires
-fill-requires c κs = let s = c .before .before .before .before .before .before .before .before in fill-room (graph (s .args .n) (s .args .sources .now) (s .args .targets .now)) (s .args .u) (s .args .w .now) (λ e. refl) (s .pre) _ (c .before .before .before .both .ensures)
+fill-requires c κs = fill-room (λ e. refl) (c .before .before .before .before .before .before .before .before .pre) (c .before .before .before .both .ensures)
 
 measure-requires : tie.Need-measure-requires
-measure-requires c κs = let s = c .before .before .before .before .before .before .before .before .before .before .before .before in measure-ask (graph (s .args .n) (s .args .sources .now) (s .args .targets .now)) (s .args .u) (s .args .w .now) (λ e. refl) (s .pre) _ (c .before .before .before .before .before .before .before .both .ensures) _ (c .before .before .before .fill .ensures)
+measure-requires c κs = measure-ask (λ e. refl) (c .before .before .before .before .before .before .before .before .before .before .before .before .pre) (c .before .before .before .before .before .before .before .both .ensures) (c .before .before .before .fill .ensures)
 
 same-length : tie.Need-same-length
-same-length c = let s = c .before .before .before .before .before .before .before .before .before .before .before .before .before .before .before in find-all (graph (s .args .n) (s .args .sources .now) (s .args .targets .now)) (s .args .u) (s .args .w .now) (λ e. refl) (s .pre) _ (c .before .before .before .before .before .before .before .before .before .before .both .ensures) _ (c .before .before .before .before .before .before .fill .ensures) _ _ (c .before .before .measure .ensures) .long
+same-length c = find-all (λ e. refl) (c .before .before .before .before .before .before .before .before .before .before .before .before .before .before .before .pre) (c .before .before .before .before .before .before .before .before .before .before .both .ensures) (c .before .before .before .before .before .before .fill .ensures) (c .before .before .measure .ensures) .long
 
 returns : tie.Need-returns
-returns c = let s = c .before .before .before .before .before .before .before .before .before .before .before .before .before .before .before in find-all (graph (s .args .n) (s .args .sources .now) (s .args .targets .now)) (s .args .u) (s .args .w .now) (λ e. refl) (s .pre) _ (c .before .before .before .before .before .before .before .before .before .before .both .ensures) _ (c .before .before .before .before .before .before .fill .ensures) _ _ (c .before .before .measure .ensures)
+returns c = find-all (λ e. refl) (c .before .before .before .before .before .before .before .before .before .before .before .before .before .before .before .pre) (c .before .before .before .before .before .before .before .before .before .before .both .ensures) (c .before .before .before .before .before .before .fill .ensures) (c .before .before .measure .ensures)
 
 pub find-spec : {M : Type 1} → statement M
 find-spec =

@@ -3,12 +3,16 @@ use lib.ListN.{length}
 use mathlib.Core.Path.{refl, sym}
 use mathlib.Core.Logic.{inl, inr}
 use native.Mathlib.Omega.{arith}
-use borrow.Author.Needs.{needs}
 use Rattle.graph.specs.Graph.{graph}
-use Rattle.paths.specs.Walk.{WalkAsk}
+use Rattle.paint.specs.Colours.{col}
+use Rattle.paths.specs.Walk.{base, WalkAsk}
 use Rattle.paths.proofs.Walks.{far-none, near-is, walked-long}
 use Rattle.paths.proofs.walk.settle.Statement.{statement}
 use Rattle.paths.proofs.walk.settle.Tie as tie
+
+-- the walk back may begin
+ask : (c : tie.Else2) → (let s = c .before .before .before .before .before .before .before in WalkAsk (graph (s .args .n) (s .args .sources .now) (s .args .targets .now)) (s .args .u) (s .args .v) (col (base (graph (s .args .n) (s .args .sources .now) (s .args .targets .now))) (s .args .w .now) (s .args .v)) (s .args .w .now) (s .args .room .now))
+ask c = let s = c .before .before .before .before .before .before .before in record { known = s .pre .known; vertex = s .pre .vertex; is = near-is (s .pre) (c .before .if1 .left); low = c .before .if1 .left; fits = c .if2 .left }
 
 add-d : tie.Need-add-d
 add-d c = omega (arith, c .before .before .before .before .pre .known .room)
@@ -32,19 +36,20 @@ cast-d : tie.Need-cast-d
 cast-d c = let s = c .before .before .before .before .before in omega (arith, c .shared-slice-known4 .given (2 * (s .args .n + 1 + length (s .args .sources .now)) + s .args .v))
 
 returns : tie.Need-returns
-returns c = let s = c .before .before .before .before .before .before in record { room-same = refl; why = inl (refl, far-none (s .pre) (c .if1 .taken)) }
+returns c = record { room-same = refl; why = inl (refl, far-none (c .before .before .before .before .before .before .pre) (c .if1 .taken)) }
 
 returns-2 : tie.Need-returns-2
-returns-2 c = let s = c .before .before .before .before .before .before .before in let e = near-is (s .pre) (c .before .if1 .left) in record { room-same = refl; why = inr (refl, omega (arith, e, c .before .if1 .left), omega (arith, e, c .if2 .taken)) }
+returns-2 c = let e = near-is (c .before .before .before .before .before .before .before .pre) (c .before .if1 .left) in
+    record { room-same = refl; why = inr (refl, omega (arith, e, c .before .if1 .left), omega (arith, e, c .if2 .taken)) }
 
 back-requires : tie.Need-back-requires
-back-requires c κs = let s = c .before .before .before .before .before .before .before .before in record { known = s .pre .known; vertex = s .pre .vertex; is = near-is (s .pre) (c .before .before .if1 .left); low = c .before .before .if1 .left; fits = c .before .if2 .left }
+back-requires c κs = ask (c .before)
 
 same-length : tie.Need-same-length
-same-length c = let s = c .before .before .before .before .before .before .before .before .before .before .before in walked-long (graph (s .args .n) (s .args .sources .now) (s .args .targets .now)) (s .args .u) (s .args .v) _ (s .args .w .now) (s .args .room .now) _ (record { known = s .pre .known; vertex = s .pre .vertex; is = near-is (s .pre) (c .before .before .before .before .before .if1 .left); low = c .before .before .before .before .before .if1 .left; fits = c .before .before .before .before .if2 .left }) (c .before .before .back .ensures)
+same-length c = walked-long (ask (c .before .before .before .before)) _ (c .before .before .back .ensures)
 
 returns-3 : tie.Need-returns-3
-returns-3 c = let s = c .before .before .before .before .before .before .before .before .before .before .before in record { is = sym (near-is (s .pre) (c .before .before .before .before .before .if1 .left)); low = c .before .before .before .before .before .if1 .left; fits = c .before .before .before .before .if2 .left; walked = c .before .before .back .ensures }
+returns-3 c = let a = ask (c .before .before .before .before) in record { is = sym (a .is); low = a .low; fits = a .fits; walked = c .before .before .back .ensures }
 
 pub settle-spec : {M : Type 1} → statement M
 settle-spec =
