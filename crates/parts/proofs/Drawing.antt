@@ -85,9 +85,9 @@ module _ {n b q : ℕ} {w ws : List ℕ} {left : ℕ} (z : Marks n b q w ws left
   marks-few = omega (arith, marks-many, many-le (has b w q) n)
 
 -- THE CUT: both searches, each with its queue taken out
-module _ (g : Graph) (b p q f : ℕ) (w : List ℕ) (a : SplitAsk g b p q f w)
-    (w₁ : List ℕ) (k₁ seen₁ : ℕ) (s : Searched g (paint q f q f) b (only p) w w₁ k₁ seen₁)
-    (ws : List ℕ) (size : ℕ) (z : Marks (g .n) b q w ws size) where
+module _ {g : Graph} {b p q f : ℕ} {w : List ℕ} (a : SplitAsk g b p q f w)
+    {w₁ : List ℕ} {k₁ seen₁ : ℕ} (s : Searched g (paint q f q f) b (only p) w w₁ k₁ seen₁)
+    {ws : List ℕ} {size : ℕ} (z : Marks (g .n) b q w ws size) where
   pub first-erase : EraseAsk (g .n) b w₁ k₁ ws size
   first-erase = record {
     queued = record { member = λ i h. s .member i h .0; few = s .few; small = a .tables .small; fits = omega (arith, a .fits, s .kept .long) };
@@ -95,21 +95,21 @@ module _ (g : Graph) (b p q f : ℕ) (w : List ℕ) (a : SplitAsk g b p q f w)
     size = z .size;
   }
 
-  module _ (ws₁ : List ℕ) (left₁ : ℕ) (r₁ : Erased (g .n) b w₁ k₁ ws ws₁ left₁)
-      (w₂ : List ℕ) (k₂ seen₂ : ℕ) (s₂ : Searched (rev g) (paint q (f + 1) f (f + 2)) b (only p) w₁ w₂ k₂ seen₂) where
+  module _ {ws₁ : List ℕ} {left₁ : ℕ} (r₁ : Erased (g .n) b w₁ k₁ ws ws₁ left₁)
+      {w₂ : List ℕ} {k₂ seen₂ : ℕ} (s₂ : Searched (rev g) (paint q (f + 1) f (f + 2)) b (only p) w₁ w₂ k₂ seen₂) where
     pub second-erase : EraseAsk (g .n) b w₂ k₂ ws₁ left₁
-    second-erase = record { queued = queued g b p q f w a w₁ k₁ seen₁ s w₂ k₂ seen₂ s₂; words = r₁ .long ∙ z .words; size = r₁ .size }
+    second-erase = record { queued = queued a s s₂; words = r₁ .long ∙ z .words; size = r₁ .size }
 
-    module _ (ws₂ : List ℕ) (left₂ : ℕ) (r₂ : Erased (g .n) b w₂ k₂ ws₁ ws₂ left₂) (l : ℕ) (lo : Lowest (g .n) b w₂ k₂ (f + 2) l) (w₃ : List ℕ) (nm : Named (g .n) b w₂ k₂ (f + 2) l w₃) where
+    module _ {ws₂ : List ℕ} {left₂ : ℕ} (r₂ : Erased (g .n) b w₂ k₂ ws₁ ws₂ left₂) {l : ℕ} (lo : Lowest (g .n) b w₂ k₂ (f + 2) l) {w₃ : List ℕ} (nm : Named (g .n) b w₂ k₂ (f + 2) l w₃) where
       out : (v : ℕ) → v < g .n → bit ws₂ v ≡ 0 → (col b w₃ v ≡ q → ⊥) → bit ws₂ v ≡ cond (has b w₃ q v) 1 0
       out v h e o = e ∙ ap (λ (x : Bool). cond x 1 0) (sym (ne-eqb (col b w₃ v) q o))
 
       gone : (v : ℕ) → v < g .n → Hit g (paint q f q f) b (only p) w v ⊎ Hit (rev g) (paint q (f + 1) f (f + 2)) b (only p) w₁ v → col b w₃ v ≡ q → ⊥
-      gone = left g b p q f w a w₁ k₁ seen₁ s w₂ k₂ seen₂ s₂ l lo w₃ nm
+      gone = left a s s₂ lo nm
 
       pub cut-all : Cut g b p q f w w₃ ws₂ left₂
       cut-all = record {
-        split = split-all g b p q f w a w₁ k₁ seen₁ s w₂ k₂ seen₂ s₂ l lo w₃ nm;
+        split = split-all a s s₂ lo nm;
         marks = record {
           words = r₂ .long ∙ r₁ .long ∙ z .words;
           bits = λ v h. ⊎-elim
@@ -121,7 +121,7 @@ module _ (g : Graph) (b p q f : ℕ) (w : List ℕ) (a : SplitAsk g b p q f w)
               r₂ .else v (λ i d e. y .0 (rw e at (s₂ .member i d .1)))
               ∙ r₁ .else v (λ i d e. x .0 (rw e at (s .member i d .1)))
               ∙ z .bits v h
-              ∙ ap (λ (c : ℕ). cond (eqb c q) 1 0) (sym (stays g b p q f w a w₁ k₁ seen₁ s w₂ k₂ seen₂ s₂ l lo w₃ nm v h (x .0) (y .0))))
+              ∙ ap (λ (c : ℕ). cond (eqb c q) 1 0) (sym (stays a s s₂ lo nm v h (x .0) (y .0))))
               (s₂ .each v h))
               (s .each v h);
           size = r₂ .size;
@@ -129,9 +129,9 @@ module _ (g : Graph) (b p q f : ℕ) (w : List ℕ) (a : SplitAsk g b p q f w)
       }
 
 -- ONE DRAW
-pub draw-all : (g : Graph) (b q state top : ℕ) (w ws : List ℕ) (left : ℕ) → DrawAsk g b q top w ws left
-    → (p : ℕ) → (p < g .n) × (col b w p ≡ q) × (p ≡ chosen (g .n) b w q 1 state) → (w' ws' : List ℕ) (left' : ℕ) → Cut g b p q top w w' ws' left' → Drawn g b q state top w left w' ws' (draw state) left'
-draw-all g b q state top w ws left a p (l, e, c) w' ws' left' z = record {
+pub draw-all : {g : Graph} {b q state top : ℕ} {w ws : List ℕ} {left : ℕ} → DrawAsk g b q top w ws left
+    → {p : ℕ} → (p < g .n) × (col b w p ≡ q) × (p ≡ chosen (g .n) b w q 1 state) → {w' ws' : List ℕ} {left' : ℕ} → Cut g b p q top w w' ws' left' → Drawn g b q state top w left w' ws' (draw state) left'
+draw-all {g} {b} {q} {w = w} a {p} (l, e, c) {w'} z = record {
   advanced = refl;
   vertex = p;
   low = l;
@@ -160,12 +160,12 @@ pub record Drawing (g : Graph) (b q state top : ℕ) (w₀ w ws : List ℕ) (s k
   pub marks : Marks (g .n) b q w ws left
   pub few : k + left ≤ g .n
 
-module _ (g : Graph) (b q state top : ℕ) (w₀ ws₀ : List ℕ) (size : ℕ) (a : RunAsk g b q top w₀ ws₀ size) where
+module _ {g : Graph} {b q state top : ℕ} {w₀ ws₀ : List ℕ} {size : ℕ} (a : RunAsk g b q top w₀ ws₀ size) where
   pub drawing-none : Drawing g b q state top w₀ w₀ ws₀ state 0 top size
   unfolding draws
   drawing-none = record { sweeps = unswept; advanced = refl; colours = omega arith; marks = a .marks; few = omega (arith, marks-few (a .marks)) }
 
-  module _ (w ws : List ℕ) (s k t left : ℕ) (z : Drawing g b q state top w₀ w ws s k t left) where
+  module _ {w ws : List ℕ} {s k t left : ℕ} (z : Drawing g b q state top w₀ w ws s k t left) where
     pub drawing-long : length w ≡ length w₀
     drawing-long = sweeps-kept (a .part) (a .known) (z .sweeps) .long
 
@@ -175,9 +175,9 @@ module _ (g : Graph) (b q state top : ℕ) (w₀ ws₀ : List ℕ) (size : ℕ) 
     pub drawing-ask : 0 < left → DrawAsk g b q t w ws left
     drawing-ask h = record { stage = drawing-stage; part = a .part; marks = z .marks; some = h }
 
-    pub drawing-step : (w' ws' : List ℕ) (s' left' : ℕ) → Drawn g b q s t w left w' ws' s' left' → Drawing g b q state top w₀ w' ws' s' (k + 1) (t + 2) left'
+    pub drawing-step : {w' ws' : List ℕ} {s' left' : ℕ} → Drawn g b q s t w left w' ws' s' left' → Drawing g b q state top w₀ w' ws' s' (k + 1) (t + 2) left'
     unfolding draws
-    drawing-step w' ws' s' left' d = rw (add-one k) (record {
+    drawing-step d = rw (add-one k) (record {
       sweeps = taken (d .vertex) (z .sweeps) (d .low) (d .live) (d .exact ∙ ap (chosen (g .n) b w q 1) (z .advanced)) (rw (z .colours) at (d .split));
       advanced = d .advanced ∙ ap draw (z .advanced);
       colours = omega (arith, z .colours);

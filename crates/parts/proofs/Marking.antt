@@ -25,26 +25,26 @@ tally-at f zero x h = absurd (omega arith)
 tally-at f (suc n) x h = elim (ℕ-discrete x n) as (λ _. f x ≤ tally f n + f n) [ yes e ↦ omega (arith, ap f e) | no e ↦ omega (arith, tally-at f n x (omega arith)) ]
 
 -- THE QUEUE IS TAKEN OUT
-module _ (n b : ℕ) (w : List ℕ) (k : ℕ) (ws : List ℕ) (size : ℕ) (a : EraseAsk n b w k ws size) where
+module _ {n b : ℕ} {w : List ℕ} {k : ℕ} {ws : List ℕ} {size : ℕ} (a : EraseAsk n b w k ws size) where
   pub erase-none : Erased n b w 0 ws ws size
   erase-none = record { long = refl; gone = λ i h. absurd (omega arith); else = λ v o. refl; less = λ v. omega arith; size = a .size }
 
-  module _ (i : ℕ) (h : i < k) (ws₁ : List ℕ) (left : ℕ) (z : Erased n b w i ws ws₁ left) where
+  module _ {i : ℕ} (h : i < k) {ws₁ : List ℕ} {left : ℕ} (z : Erased n b w i ws ws₁ left) where
     pub strike-ask : StrikeAsk (que n b w i) ws₁ left
     strike-ask = record {
       room = omega (arith, a .queued .member i h, z .long, a .words);
       some = λ e. omega (arith, e, z .size, tally-at (bit ws₁) n (que n b w i) (a .queued .member i h));
     }
 
-    pub erase-step : (ws₂ : List ℕ) (left' : ℕ) → Struck (que n b w i) ws₁ left ws₂ left' → Erased n b w (i + 1) ws ws₂ left'
-    erase-step ws₂ left' (inl (e, p, q)) = rw (p, q) (record {
+    pub erase-step : {ws₂ : List ℕ} {left' : ℕ} → Struck (que n b w i) ws₁ left ws₂ left' → Erased n b w (i + 1) ws ws₂ left'
+    erase-step (inl (e, p, q)) = rw (p, q) (record {
       long = z .long;
       gone = λ j l. elim (ℕ-discrete j i) as (λ _. bit ws₁ (que n b w j) ≡ 0) [ yes y ↦ rw y e | no y ↦ z .gone j (omega arith) ];
       else = λ v o. z .else v (λ j l. o j (omega arith));
       less = z .less;
       size = z .size;
     })
-    erase-step ws₂ left' (inr (e, p, q)) = record {
+    erase-step {ws₂} (inr (e, p, q)) = record {
       long = p .long ∙ z .long;
       gone = λ j l. elim (ℕ-discrete (que n b w j) (que n b w i)) as (λ _. bit ws₂ (que n b w j) ≡ 0) [
         | yes y ↦ rw y (p .here)
@@ -68,7 +68,7 @@ pub record Marking (n b h q : ℕ) (w ws₀ : List ℕ) (a : MarkAsk n b h q w w
   pub here : i < n → a .runs .past i ≡ q
   pub most : i ≤ n
 
-module _ (n b h q : ℕ) (w ws₀ : List ℕ) (a : MarkAsk n b h q w ws₀) where
+module _ {n b h q : ℕ} {w ws₀ : List ℕ} (a : MarkAsk n b h q w ws₀) where
   pub mark-none : Marking n b h q w ws₀ a h ws₀ 0
   mark-none = record {
     words = a .empty .words;
@@ -80,7 +80,7 @@ module _ (n b h q : ℕ) (w ws₀ : List ℕ) (a : MarkAsk n b h q w ws₀) wher
     most = omega (arith, a .runs .first .low);
   }
 
-  module _ (i : ℕ) (ws : List ℕ) (k : ℕ) (z : Marking n b h q w ws₀ a i ws k) where
+  module _ {i : ℕ} {ws : List ℕ} {k : ℕ} (z : Marking n b h q w ws₀ a i ws k) where
     module _ (l : i < n) where
       pub mark-next : Follows n (a .runs .past) i (nxt n b w i)
       mark-next = a .runs .next i l (z .here l)
@@ -94,8 +94,8 @@ module _ (n b h q : ℕ) (w ws₀ : List ℕ) (a : MarkAsk n b h q w ws₀) wher
       fresh : bit ws (ord n b w i) ≡ 0
       fresh = ⊎-elim (λ t. t) (λ (j, d, e, _). absurd (omega (arith, d, a .placed .one j i (omega arith) l e))) (z .only (ord n b w i) (a .placed .low i l))
 
-      pub mark-step : (ws' : List ℕ) (k' : ℕ) → Entered n b i q w ws k ws' k' → Marking n b h q w ws₀ a (nxt n b w i) ws' k'
-      mark-step ws' k' (inl (c, p, e)) = record {
+      pub mark-step : {ws' : List ℕ} {k' : ℕ} → Entered n b i q w ws k ws' k' → Marking n b h q w ws₀ a (nxt n b w i) ws' k'
+      mark-step {ws'} (inl (c, p, e)) = record {
         words = p .long ∙ z .words;
         some = λ j d y. elim (ℕ-discrete (ord n b w j) (ord n b w i)) as (λ _. bit ws' (ord n b w j) ≡ 1) [
           | yes r ↦ rw r (p .here)
@@ -113,7 +113,7 @@ module _ (n b h q : ℕ) (w ws₀ : List ℕ) (a : MarkAsk n b h q w ws₀) wher
         where
           before : (j : ℕ) → j < nxt n b w i → own n b w j ≡ q → (j ≡ i → ⊥) → j < i
           before j d y o = elim (decLt j i) as (λ _. j < i) [ yes r ↦ r | no r ↦ absurd (between j (omega arith) d y) ]
-      mark-step ws' k' (inr (c, p, e)) = rw (p, e) (record {
+      mark-step (inr (c, p, e)) = rw (p, e) (record {
         words = z .words;
         some = λ j d y. elim (decLt j i) as (λ _. bit ws (ord n b w j) ≡ 1) [
           | yes r ↦ z .some j r y

@@ -13,8 +13,8 @@ use Rattle.parts.specs.Split.{Lower, Lowest, Renamed, Queued, Named}
 pub lowest-none : (n b : ℕ) (w : List ℕ) (d : ℕ) → Lowest n b w 0 d n
 lowest-none n b w d = record { least = λ i h. absurd (omega arith); found = inl refl }
 
-pub lowest-step : (n b : ℕ) (w : List ℕ) (i d l l' : ℕ) → Lowest n b w i d l → Lower l (que n b w i) (col b w (que n b w i)) d l' → Lowest n b w (i + 1) d l'
-lowest-step n b w i d l l' z s = record {
+pub lowest-step : {n b : ℕ} {w : List ℕ} {i d l l' : ℕ} → Lowest n b w i d l → Lower l (que n b w i) (col b w (que n b w i)) d l' → Lowest n b w (i + 1) d l'
+lowest-step {n} {b} {w} {i} {l' = l'} z s = record {
   least = λ j h e. elim (ℕ-discrete j i) as (λ _. l' ≤ que n b w j) [
     | yes q ↦ rw q (s .here (rw q at e))
     | no q ↦ omega (arith, z .least j (omega arith) e, s .most)
@@ -30,15 +30,15 @@ low-le z q = ⊎-elim (λ t. omega (arith, t)) (λ t. omega (arith, t .2, q .mem
 pub named-none : (n b : ℕ) (w : List ℕ) (d l : ℕ) → Named n b w 0 d l w
 named-none n b w d l = record { each = λ v h. inl refl; done = λ i h. absurd (omega arith); low = λ j h. refl; high = λ j h. refl; long = refl }
 
-module _ (n b : ℕ) (w₀ : List ℕ) (k d l : ℕ) (q : Queued n b w₀ k) (o : l ≡ d → ⊥) (i : ℕ) (w : List ℕ) (z : Named n b w₀ i d l w) (h : i < k) where
+module _ {n b : ℕ} {w₀ : List ℕ} {k d l : ℕ} (q : Queued n b w₀ k) (o : l ≡ d → ⊥) {i : ℕ} {w : List ℕ} (z : Named n b w₀ i d l w) (h : i < k) where
   pub que-same : que n b w i ≡ que n b w₀ i
   que-same = z .high (b + n + i) (omega arith)
 
   pub que-lt : que n b w i < n
   que-lt = omega (arith, que-same, q .member i h)
 
-  pub named-step : (w' : List ℕ) → Renamed w (b + que n b w i) d l w' → Named n b w₀ (i + 1) d l w'
-  named-step w' (inl (e, p)) = rw p (record {
+  pub named-step : {w' : List ℕ} → Renamed w (b + que n b w i) d l w' → Named n b w₀ (i + 1) d l w'
+  named-step (inl (e, p)) = rw p (record {
     each = λ v t. elim (ℕ-discrete v x) as (λ _. (col b w₁ v ≡ col b w₀ v) ⊎ ((col b w₀ v ≡ d) × (col b w₁ v ≡ l))) [
       | yes y ↦ inr (⊎-elim (λ s. sym s ∙ rw y e) (λ s. s .0) (z .each v t), rw y here)
       | no y ↦ ⊎-elim (λ s. inl (else v y ∙ s)) (λ s. inr (s .0, else v y ∙ s .1)) (z .each v t)
@@ -63,7 +63,7 @@ module _ (n b : ℕ) (w₀ : List ℕ) (k d l : ℕ) (q : Queued n b w₀ k) (o 
 
       else : (v : ℕ) → (v ≡ x → ⊥) → col b w₁ v ≡ col b w v
       else v y = getD-set-other w (b + x) (b + v) l 0 (omega arith)
-  named-step w' (inr (e, p)) = rw p (record {
+  named-step (inr (e, p)) = rw p (record {
     each = z .each;
     done = λ j t s. elim (ℕ-discrete j i) as (λ _. ⊥) [
       | yes r ↦ e (ap (col b w) (que-same ∙ ap (que n b w₀) (sym r)) ∙ s)

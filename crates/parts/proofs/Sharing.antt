@@ -310,7 +310,7 @@ module _ (n b base lim : ℕ) (w₀ : List ℕ) where
         stack : (j : ℕ) → j < k → head n b x j ≡ head n b w j
         stack j a = else (b + 8 * n + 2 + j) (omega (arith, old, most)) (omega arith) (omega arith)
 
-module _ (n b base lim h : ℕ) (w₀ : List ℕ) (a : ShareAsk n b base lim h w₀) where
+module _ {n b base lim h : ℕ} {w₀ : List ℕ} (a : ShareAsk n b base lim h w₀) where
   pub share-start : Sharing n b base lim w₀ h w₀ 0
   share-start = skip n b base lim w₀ 0 h w₀ 0 (omega arith)
       (λ x l t. elim (decLt (own n b w₀ x) base) as (λ _. own n b w₀ x < base) [ yes q ↦ q | no q ↦ absurd (a .first .none x t (a .ours x (omega (arith, a .first .low)) (omega arith))) ])
@@ -327,7 +327,7 @@ module _ (n b base lim h : ℕ) (w₀ : List ℕ) (a : ShareAsk n b base lim h w
         apart = λ j m l t e. omega arith;
       })
 
-  module _ (i : ℕ) (w : List ℕ) (k : ℕ) (z : Sharing n b base lim w₀ i w k) (l : i < n) (here : a .past i ≡ a .past h) where
+  module _ {i : ℕ} {w : List ℕ} {k : ℕ} (z : Sharing n b base lim w₀ i w k) (l : i < n) (here : a .past i ≡ a .past h) where
     pub next-of : Follows n (a .past) i (nxt n b w i)
     next-of = rw (z .rest i l (inl (omega arith))) (a .chain i l here)
 
@@ -362,8 +362,8 @@ module _ (n b base lim h : ℕ) (w₀ : List ℕ) (a : ShareAsk n b base lim h w
       | no q ↦ absurd (next-of .none x (omega arith) t (a .ours x (omega (arith, next-of .most)) (omega arith) ∙ sym here))
     ]
 
-    pub share-step : (w' : List ℕ) (k' : ℕ) → Hung n b i k w w' k' → Sharing n b base lim w₀ (nxt n b w i) w' k'
-    share-step w' k' g = skip n b base lim w₀ (i + 1) (nxt n b w i) w' k' (omega (arith, next-of .more)) next-past (go g)
+    pub share-step : {w' : List ℕ} {k' : ℕ} → Hung n b i k w w' k' → Sharing n b base lim w₀ (nxt n b w i) w' k'
+    share-step {w'} {k'} g = skip n b base lim w₀ (i + 1) (nxt n b w i) w' k' (omega (arith, next-of .more)) next-past (go g)
       where
         go : Hung n b i k w w' k' → Sharing n b base lim w₀ (i + 1) w' k'
         go (inl (o, p, q)) = rw (p, q) (skip n b base lim w₀ i (i + 1) w k (omega arith)

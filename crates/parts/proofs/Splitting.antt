@@ -32,7 +32,7 @@ tables-kept g b w w' k t = record {
 }
 
 -- THE PIVOT
-module _ (g : Graph) (b p q f : ℕ) (w : List ℕ) (a : SplitAsk g b p q f w) where
+module _ {g : Graph} {b p q f : ℕ} {w : List ℕ} (a : SplitAsk g b p q f w) where
   abbrev m₁ : ℕ → ℕ
   m₁ = paint q f q f
 
@@ -59,7 +59,7 @@ module _ (g : Graph) (b p q f : ℕ) (w : List ℕ) (a : SplitAsk g b p q f w) w
     start = a .start;
   }
 
-  module _ (w₁ : List ℕ) (k₁ seen₁ : ℕ) (s : Searched g (paint q f q f) b (only p) w w₁ k₁ seen₁) where
+  module _ {w₁ : List ℕ} {k₁ seen₁ : ℕ} (s : Searched g (paint q f q f) b (only p) w w₁ k₁ seen₁) where
     low-same : (j : ℕ) → j < b → getD w₁ j 0 ≡ getD w j 0
     low-same j h = s .kept .low j h
 
@@ -106,7 +106,7 @@ module _ (g : Graph) (b p q f : ℕ) (w : List ℕ) (a : SplitAsk g b p q f w) w
       start = a .start;
     }
 
-    module _ (w₂ : List ℕ) (k₂ seen₂ : ℕ) (s₂ : Searched (rev g) (paint q (f + 1) f (f + 2)) b (only p) w₁ w₂ k₂ seen₂) where
+    module _ {w₂ : List ℕ} {k₂ seen₂ : ℕ} (s₂ : Searched (rev g) (paint q (f + 1) f (f + 2)) b (only p) w₁ w₂ k₂ seen₂) where
       open₂ : (v : ℕ) → v < g .n → Opens (paint q (f + 1) f (f + 2)) (col b w₁ v) → A v
       open₂ v h o = ⊎-elim (λ x. (h, F-in v (x .0) .1))
           (λ x. ⊎-elim (λ t. (h, sym (x .1) ∙ t)) (λ t. absurd (omega (arith, a .owned .below v h, x .1, t))) (paint-opens q (f + 1) f (f + 2) (col b w₁ v) o)) (one v h)
@@ -163,7 +163,7 @@ module _ (g : Graph) (b p q f : ℕ) (w : List ℕ) (a : SplitAsk g b p q f w) w
       whole₂ : (u v : ℕ) → u < g .n → Same g u v → col b w₂ u ≡ col b w₂ v
       whole₂ = search-whole-back s₂ ok start-low (search-whole s ok start-low (a .owned .whole))
 
-      module _ (l : ℕ) (lo : Lowest (g .n) b w₂ k₂ (f + 2) l) where
+      module _ {l : ℕ} (lo : Lowest (g .n) b w₂ k₂ (f + 2) l) where
         listed : (v : ℕ) → FB v → (i : ℕ) × (i < k₂) × (que (g .n) b w₂ i ≡ v)
         listed v x = s₂ .listed v (in-low v x) (B-hit v (bwd-rev ok v .0 (x .1)))
 
@@ -176,7 +176,7 @@ module _ (g : Graph) (b p q f : ℕ) (w : List ℕ) (a : SplitAsk g b p q f w) w
         l-in : FB l
         l-in = ⊎-elim (λ t. absurd (omega (arith, t, l-low))) (λ t. back l l-low (t .3)) (lo .found)
 
-        module _ (w₃ : List ℕ) (nm : Named (g .n) b w₂ k₂ (f + 2) l w₃) where
+        module _ {w₃ : List ℕ} (nm : Named (g .n) b w₂ k₂ (f + 2) l w₃) where
           hit₃ : (v : ℕ) → v < g .n → col b w₂ v ≡ f + 2 → col b w₃ v ≡ l
           hit₃ v h e = ⊎-elim (λ t. let i = listed v (back v h e) in absurd (nm .done (i .0) (i .1) (ap (col b w₃) (i .2) ∙ t ∙ e))) (λ t. t .1) (nm .each v h)
 

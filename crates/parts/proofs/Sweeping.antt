@@ -55,7 +55,7 @@ split-ask {g} {b} {p} {q} {top} {w} s l e part = record {
   room = omega (arith, top-le s, s .tables .small);
 }
 
-module _ (g : Graph) (b p q f : ℕ) (w w' : List ℕ) (l : p < g .n) (part : g .n ≤ q) (e : col b w p ≡ q) (z : Split g b p q f w w') where
+module _ {g : Graph} {b p q f : ℕ} {w w' : List ℕ} (l : p < g .n) (part : g .n ≤ q) (e : col b w p ≡ q) (z : Split g b p q f w w') where
   pub split-labels : labelled g b w < labelled g b w'
   split-labels = many-more (λ u. ltb (col b w u) (g .n)) (λ u. ltb (col b w' u) (g .n)) (g .n)
       (λ u h t. let y = ltb→lt (col b w u) (g .n) t in rw (z .others u h (omega (arith, y, part))) t)
@@ -96,11 +96,11 @@ module _ {g : Graph} {b q kind state top : ℕ} {w : List ℕ} (part : g .n ≤ 
   -- each pivot labels a vertex, and finishes at most one component of two or more
   pub sweeps-few : {k : ℕ} {w' : List ℕ} → Sweeps g b q kind state top w k w' → labelled g b w + k ≤ labelled g b w'
   sweeps-few unswept = omega arith
-  sweeps-few {w' = w'} (taken {k} {w₁} p s l e c z) = omega (arith, sweeps-few s, split-labels g b p q (top + 2 * k) w₁ w' l part e z)
+  sweeps-few {w' = w'} (taken {k} {w₁} p s l e c z) = omega (arith, sweeps-few s, split-labels l part e z)
 
   pub sweeps-many : {k : ℕ} {w' : List ℕ} → Sweeps g b q kind state top w k w' → rings g b w' ≤ rings g b w + k
   sweeps-many unswept = omega arith
-  sweeps-many {w' = w'} (taken {k} {w₁} p s l e c z) = omega (arith, sweeps-many s, split-rings g b p q (top + 2 * k) w₁ w' l part e z)
+  sweeps-many {w' = w'} (taken {k} {w₁} p s l e c z) = omega (arith, sweeps-many s, split-rings l part e z)
 
   -- what had the colour q and has it no more was taken by a pivot
   pub sweeps-some : {k : ℕ} {w' : List ℕ} → Sweeps g b q kind state top w k w' → (v : ℕ) → col b w v ≡ q → (col b w' v ≡ q → ⊥) → 0 < k
@@ -111,7 +111,7 @@ module _ {g : Graph} {b q kind state top : ℕ} {w : List ℕ} (part : g .n ≤ 
   sweeps-stage a unswept = let y : top + 2 * 0 ≡ top = omega arith in rw y a
   sweeps-stage a {w' = w'} (taken {k} {w₁} p s l e c z) =
       let y : top + 2 * suc k ≡ top + 2 * k + 2 = omega arith in
-      rw y (split-stage g b p q (top + 2 * k) w₁ w' l part e z (sweeps-stage a s))
+      rw y (split-stage l part e z (sweeps-stage a s))
 
 chosen-kind : (n b : ℕ) (w : List ℕ) (q kind s s' : ℕ) → (kind ≡ 1 → ⊥) → chosen n b w q 0 s ≡ chosen n b w q kind s'
 unfolding chosen
@@ -134,7 +134,7 @@ pub record Sweeping (g : Graph) (b h q top : ℕ) (w₀ : List ℕ) (a : SweepAs
   pub here : i < g .n → a .runs .past i ≡ q
   pub most : i ≤ g .n
 
-module _ (g : Graph) (b h q top : ℕ) (w₀ : List ℕ) (a : SweepAsk g b h q top w₀) where
+module _ {g : Graph} {b h q top : ℕ} {w₀ : List ℕ} (a : SweepAsk g b h q top w₀) where
   part : g .n ≤ q
   part = omega (arith, a .runs .first .part, a .runs .live)
 
@@ -148,7 +148,7 @@ module _ (g : Graph) (b h q top : ℕ) (w₀ : List ℕ) (a : SweepAsk g b h q t
     most = omega (arith, a .runs .first .low);
   }
 
-  module _ (i : ℕ) (w : List ℕ) (t : ℕ) (z : Sweeping g b h q top w₀ a i w t) where
+  module _ {i : ℕ} {w : List ℕ} {t : ℕ} (z : Sweeping g b h q top w₀ a i w t) where
     kept : Kept (g .n) b w₀ w
     kept = sweeps-kept part (a .known) (z .sweeps)
 
@@ -195,8 +195,8 @@ module _ (g : Graph) (b h q top : ℕ) (w₀ : List ℕ) (a : SweepAsk g b h q t
       first-chosen e state = ap (ord (g .n) b w) (least-is (g .n) (λ j. eqb (own (g .n) b w j) q) i l (eq-T (own (g .n) b w i) q e)
           (λ j m y. z .gone j m (eqb→eq (own (g .n) b w j) q y)))
 
-      pub sweep-step : (w' : List ℕ) (t' : ℕ) → Turned g b i q t w w' t' → Sweeping g b h q top w₀ a (nxt (g .n) b w i) w' t'
-      sweep-step w' t' (inl (c, p, y)) = record {
+      pub sweep-step : {w' : List ℕ} {t' : ℕ} → Turned g b i q t w w' t' → Sweeping g b h q top w₀ a (nxt (g .n) b w i) w' t'
+      sweep-step {w'} (inl (c, p, y)) = record {
         pivots = suc (z .pivots);
         sweeps = taken (ord (g .n) b w i) (z .sweeps) (sweep-stage .placed .low i l) c (first-chosen c (draws (z .pivots) 0)) (rw (z .colours) at y);
         colours = omega (arith, z .colours);
@@ -205,7 +205,7 @@ module _ (g : Graph) (b h q top : ℕ) (w₀ : List ℕ) (a : SweepAsk g b h q t
         here = λ m. next-is .same m ∙ z .here l;
         most = next-is .most;
       }
-      sweep-step w' t' (inr (c, p, y)) = rw (p, y) (record {
+      sweep-step (inr (c, p, y)) = rw (p, y) (record {
         pivots = z .pivots;
         sweeps = z .sweeps;
         colours = z .colours;

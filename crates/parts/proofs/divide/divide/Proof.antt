@@ -24,25 +24,39 @@ slice-read-v : tie.Need-slice-read-v
 slice-read-v c = search needs
 
 cast-v : tie.Need-cast-v
-cast-v c = let s = c .before .before .before .before .before in omega (arith, s .pre .stage .placed .low (s .args .h) (s .pre .first .low), s .pre .stage .tables .small, s .pre .stage .long)
+cast-v c =
+    let s = c .before .before .before .before .before in
+    omega (arith, s .pre .stage .placed .low (s .args .h) (s .pre .first .low), s .pre .stage .tables .small, s .pre .stage .long)
 
 add-q : tie.Need-add-q
-add-q c = let s = c .before .before .before .before .before in omega (arith, s .pre .stage .placed .low (s .args .h) (s .pre .first .low), s .pre .stage .tables .small, s .pre .stage .long)
+add-q c =
+    let s = c .before .before .before .before .before in
+    omega (arith, s .pre .stage .placed .low (s .args .h) (s .pre .first .low), s .pre .stage .tables .small, s .pre .stage .long)
 
 mul-q : tie.Need-mul-q
-mul-q c = let s = c .before .before .before .before .before in omega (arith, s .pre .stage .placed .low (s .args .h) (s .pre .first .low), s .pre .stage .tables .small, s .pre .stage .long)
+mul-q c =
+    let s = c .before .before .before .before .before in
+    omega (arith, s .pre .stage .placed .low (s .args .h) (s .pre .first .low), s .pre .stage .tables .small, s .pre .stage .long)
 
 slice-read-q : tie.Need-slice-read-q
-slice-read-q c = let s = c .before .before .before .before .before .before in omega (arith, s .pre .stage .placed .low (s .args .h) (s .pre .first .low), s .pre .stage .tables .small, s .pre .stage .long)
+slice-read-q c =
+    let s = c .before .before .before .before .before .before in
+    omega (arith, s .pre .stage .placed .low (s .args .h) (s .pre .first .low), s .pre .stage .tables .small, s .pre .stage .long)
 
 prune-requires : tie.Need-prune-requires
-prune-requires c κs = let s = c .before .before .before .before .before .before .before in divide-trim (s .pre) (λ e. refl)
+prune-requires c κs =
+    let s = c .before .before .before .before .before .before .before in
+    divide-trim (s .pre) (λ e. refl)
 
 swept-requires : tie.Need-swept-requires
-swept-requires c κs = let s = c .before .before .before .before .before .before .before .before .before .before .before .before in divide-sweep (s .pre) (c .before .before .before .before .prune .ensures)
+swept-requires c κs =
+    let s = c .before .before .before .before .before .before .before .before .before .before .before .before in
+    divide-sweep (s .pre) (c .before .before .before .before .prune .ensures)
 
 share-requires : tie.Need-share-requires
-share-requires c κs = let s = c .before .before .before .before .before .before .before .before .before .before .before .before .before .before .before .before .before .before in divide-share (s .pre) (c .before .before .before .before .before .before .before .before .before .before .prune .ensures) (c .before .before .before .before .before .swept .ensures)
+share-requires c κs =
+    let s = c .before .before .before .before .before .before .before .before .before .before .before .before .before .before .before .before .before .before in
+    divide-share (s .pre) (c .before .before .before .before .before .before .before .before .before .before .prune .ensures) (c .before .before .before .before .before .swept .ensures)
 
 same-length : tie.Need-same-length
 same-length c = search needs
@@ -51,7 +65,9 @@ same-length-2 : tie.Need-same-length-2
 same-length-2 c = search needs
 
 returns : tie.Need-returns
-returns c = let s = c .before .before .before .before .before .before .before .before .before .before .before .before .before .before .before .before .before .before .before .before .before in divide-all (s .pre) (c .before .before .before .before .before .before .before .before .before .before .before .before .before .prune .ensures) (c .before .before .before .before .before .before .before .before .swept .ensures) (c .before .before .share .ensures)
+returns c =
+    let s = c .before .before .before .before .before .before .before .before .before .before .before .before .before .before .before .before .before .before .before .before .before in
+    divide-all (s .pre) (c .before .before .before .before .before .before .before .before .before .before .before .before .before .prune .ensures) (c .before .before .before .before .before .before .before .before .swept .ensures) (c .before .before .share .ensures)
 
 pub divide-spec : {M : Type 1} → statement M
 divide-spec =

@@ -13,10 +13,14 @@ slice-relend-prefix-sweep : tie.Need-slice-relend-prefix-sweep
 slice-relend-prefix-sweep c = search needs
 
 slice-aggregate-sweep : tie.Need-slice-aggregate-sweep
-slice-aggregate-sweep c = let s = c .before .before .before .before .before .before .before in sym (length-take-le (wordsOf (s .args .n)) (s .args .words .now) (s .pre .blank .words))
+slice-aggregate-sweep c =
+    let s = c .before .before .before .before .before .before .before in
+    sym (length-take-le (wordsOf (s .args .n)) (s .args .words .now) (s .pre .blank .words))
 
 sweep-requires : tie.Need-sweep-requires
-sweep-requires c κs = let s = c .before .before .before .before .before .before .before in lent-ask (s .pre)
+sweep-requires c κs =
+    let s = c .before .before .before .before .before .before .before in
+    lent-ask (s .pre)
 
 same-length : tie.Need-same-length
 same-length c = search needs
@@ -25,7 +29,9 @@ same-length-2 : tie.Need-same-length-2
 same-length-2 c = search needs
 
 returns : tie.Need-returns
-returns c = let s = c .before .before .before .before .before .before .before .before .before .before .before .before in kind-drawn (s .pre) (c .before .before .before .before .before .before .before .if1 .taken) (c .before .before .before .before .sweep .ensures)
+returns c =
+    let s = c .before .before .before .before .before .before .before .before .before .before .before .before in
+    kind-drawn (s .pre) (c .before .before .before .before .before .before .before .if1 .taken) (c .before .before .before .before .sweep .ensures)
 
 sweep-requires-2 : tie.Need-sweep-requires-2
 sweep-requires-2 c κs = search needs
@@ -34,7 +40,9 @@ same-length-3 : tie.Need-same-length-3
 same-length-3 c = search needs
 
 returns-2 : tie.Need-returns-2
-returns-2 c = let s = c .before .before .before .before .before .before .before .before .before in kind-chain (s .pre) (c .before .before .before .before .if1 .left) (c .before .before .sweep2 .ensures)
+returns-2 c =
+    let s = c .before .before .before .before .before .before .before .before .before in
+    kind-chain (s .pre) (c .before .before .before .before .if1 .left) (c .before .before .sweep2 .ensures)
 
 pub swept-spec : {M : Type 1} → statement M
 swept-spec =

@@ -1,10 +1,8 @@
 use mathlib.Core.Path.{refl}
 use native.Mathlib.Omega.{arith}
 use borrow.Author.Needs.{needs}
-use Rattle.graph.specs.Graph.{graph}
-use Rattle.parts.proofs.Splitting.{first-ask, second-ask}
+use Rattle.parts.proofs.Splitting.{first-ask, second-ask, queued}
 use Rattle.parts.proofs.Drawing.{first-erase, second-erase, cut-all}
-use Rattle.parts.proofs.Splitting.{queued}
 use Rattle.parts.proofs.drawn.cut.Statement.{statement}
 use Rattle.parts.proofs.drawn.cut.Tie as tie
 
@@ -15,10 +13,12 @@ add-rx-2 : tie.Need-add-rx-2
 add-rx-2 c = search needs
 
 search-requires : tie.Need-search-requires
-search-requires c κs = let s = c .before .before .before .before .before in first-ask (graph (s .args .n) (s .args .sources .now) (s .args .targets .now)) (s .args .b) (s .args .p) (s .args .q) (s .args .f) (s .args .w .now) (s .pre .split) (λ e. refl)
+search-requires c κs = first-ask (c .before .before .before .before .before .pre .split) (λ e. refl)
 
 erase-requires : tie.Need-erase-requires
-erase-requires c κs = let s = c .before .before .before .before .before .before .before .before .before .before in first-erase (graph (s .args .n) (s .args .sources .now) (s .args .targets .now)) (s .args .b) (s .args .p) (s .args .q) (s .args .f) (s .args .w .now) (s .pre .split) _ _ _ (c .before .before .before .before .search .ensures) (s .args .words .now) (s .args .left) (s .pre .marks)
+erase-requires c κs =
+    let s = c .before .before .before .before .before .before .before .before .before .before in
+    first-erase (s .pre .split) (c .before .before .before .before .search .ensures) (s .pre .marks)
 
 add-search : tie.Need-add-search
 add-search c = search needs
@@ -27,16 +27,22 @@ add-search-2 : tie.Need-add-search-2
 add-search-2 c = search needs
 
 search-requires-2 : tie.Need-search-requires-2
-search-requires-2 c κs = let s = c .before .before .before .before .before .before .before .before .before .before .before .before .before .before in second-ask (graph (s .args .n) (s .args .sources .now) (s .args .targets .now)) (s .args .b) (s .args .p) (s .args .q) (s .args .f) (s .args .w .now) (s .pre .split) _ _ _ (c .before .before .before .before .before .before .before .before .search .ensures) (λ e. refl)
+search-requires-2 c κs = second-ask (c .before .before .before .before .before .before .before .before .before .before .before .before .before .before .pre .split) (c .before .before .before .before .before .before .before .before .search .ensures) (λ e. refl)
 
 erase-requires-2 : tie.Need-erase-requires-2
-erase-requires-2 c κs = let s = c .before .before .before .before .before .before .before .before .before .before .before .before .before .before .before .before .before .before .before in second-erase (graph (s .args .n) (s .args .sources .now) (s .args .targets .now)) (s .args .b) (s .args .p) (s .args .q) (s .args .f) (s .args .w .now) (s .pre .split) _ _ _ (c .before .before .before .before .before .before .before .before .before .before .before .before .before .search .ensures) (s .args .words .now) (s .args .left) (s .pre .marks) _ _ (c .before .before .before .before .before .before .before .before .erase .ensures) _ _ _ (c .before .before .before .before .search2 .ensures)
+erase-requires-2 c κs =
+    let s = c .before .before .before .before .before .before .before .before .before .before .before .before .before .before .before .before .before .before .before in
+    second-erase (s .pre .split) (c .before .before .before .before .before .before .before .before .before .before .before .before .before .search .ensures) (s .pre .marks) (c .before .before .before .before .before .before .before .before .erase .ensures) (c .before .before .before .before .search2 .ensures)
 
 add-label : tie.Need-add-label
-add-label c = let s = c .before .before .before .before .before .before .before .before .before .before .before .before .before .before .before .before .before .before .before .before .before .before .before in omega (arith, s .pre .split .room)
+add-label c =
+    let s = c .before .before .before .before .before .before .before .before .before .before .before .before .before .before .before .before .before .before .before .before .before .before .before in
+    omega (arith, s .pre .split .room)
 
 label-requires : tie.Need-label-requires
-label-requires c κs = let s = c .before .before .before .before .before .before .before .before .before .before .before .before .before .before .before .before .before .before .before .before .before .before .before in record { queued = queued (graph (s .args .n) (s .args .sources .now) (s .args .targets .now)) (s .args .b) (s .args .p) (s .args .q) (s .args .f) (s .args .w .now) (s .pre .split) _ _ _ (c .before .before .before .before .before .before .before .before .before .before .before .before .before .before .before .before .before .search .ensures) _ _ _ (c .before .before .before .before .before .before .before .before .search2 .ensures); part = omega (arith, s .pre .split .part, s .pre .split .owned .below (s .args .p) (s .pre .split .start), s .pre .split .live) }
+label-requires c κs =
+    let s = c .before .before .before .before .before .before .before .before .before .before .before .before .before .before .before .before .before .before .before .before .before .before .before in
+    record { queued = queued (s .pre .split) (c .before .before .before .before .before .before .before .before .before .before .before .before .before .before .before .before .before .search .ensures) (c .before .before .before .before .before .before .before .before .search2 .ensures); part = omega (arith, s .pre .split .part, s .pre .split .owned .below (s .args .p) (s .pre .split .start), s .pre .split .live) }
 
 same-length : tie.Need-same-length
 same-length c = search needs
@@ -45,7 +51,10 @@ same-length-2 : tie.Need-same-length-2
 same-length-2 c = search needs
 
 returns : tie.Need-returns
-returns c = let s = c .before .before .before .before .before .before .before .before .before .before .before .before .before .before .before .before .before .before .before .before .before .before .before .before .before .before in let z = c .before .before .label .ensures in cut-all (graph (s .args .n) (s .args .sources .now) (s .args .targets .now)) (s .args .b) (s .args .p) (s .args .q) (s .args .f) (s .args .w .now) (s .pre .split) _ _ _ (c .before .before .before .before .before .before .before .before .before .before .before .before .before .before .before .before .before .before .before .before .search .ensures) (s .args .words .now) (s .args .left) (s .pre .marks) _ _ (c .before .before .before .before .before .before .before .before .before .before .before .before .before .before .before .erase .ensures) _ _ _ (c .before .before .before .before .before .before .before .before .before .before .before .search2 .ensures) _ _ (c .before .before .before .before .before .before .erase2 .ensures) (z .vertex) (z .lowest) _ (z .named)
+returns c =
+    let s = c .before .before .before .before .before .before .before .before .before .before .before .before .before .before .before .before .before .before .before .before .before .before .before .before .before .before in
+    let z = c .before .before .label .ensures in
+    cut-all (s .pre .split) (c .before .before .before .before .before .before .before .before .before .before .before .before .before .before .before .before .before .before .before .before .search .ensures) (s .pre .marks) (c .before .before .before .before .before .before .before .before .before .before .before .before .before .before .before .erase .ensures) (c .before .before .before .before .before .before .before .before .before .before .before .search2 .ensures) (c .before .before .before .before .before .before .erase2 .ensures) (z .lowest) (z .named)
 
 pub cut-spec : {M : Type 1} → statement M
 cut-spec =

@@ -39,7 +39,9 @@ returns : tie.Need-returns
 returns c = inr (c .if1 .taken, refl, refl)
 
 add-requires : tie.Need-add-requires
-add-requires c κs = let s = c .before .before .before .before .before .before in omega (arith, s .pre .vertex, s .pre .words)
+add-requires c κs =
+    let s = c .before .before .before .before .before .before in
+    omega (arith, s .pre .vertex, s .pre .words)
 
 add-result : tie.Need-add-result
 add-result c = search needs

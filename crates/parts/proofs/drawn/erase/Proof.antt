@@ -1,8 +1,10 @@
 use mathlib.Core.Path.{_≡_}
 use Prim.Native.Nat.{_≤_, _-_}
 use native.Mathlib.Omega.{arith}
+use Rattle.graph.specs.Pivot.{member}
 use Rattle.parts.specs.Drawn.{Erased}
 use Rattle.parts.proofs.Marking.{erase-none, strike-ask, erase-step}
+use Rattle.parts.proofs.Splitting.{queued}
 use Rattle.parts.proofs.drawn.erase.Statement.{statement}
 use Rattle.parts.proofs.drawn.erase.Tie as tie
 
@@ -13,25 +15,43 @@ abbrev μ-loop : tie.MeasureT-loop
 μ-loop n w words₀ b k size left₀ i₀ words left i = k - i
 
 loop-holds : tie.Need-loop-holds Inv-loop μ-loop
-loop-holds c = let s = c .before .before in (omega arith, erase-none (s .args .n) (s .args .b) (s .args .w .now) (s .args .k) (s .args .words .now) (s .args .size) (s .pre))
+loop-holds c = (omega arith, erase-none (c .before .before .pre))
 
 add-v : tie.Need-add-v Inv-loop μ-loop
-add-v c = let s = c .before .before .before .before in let l = c .before .loop in omega (arith, s .pre .queued .fits, s .pre .queued .few, s .pre .queued .small)
+add-v c =
+    let s = c .before .before .before .before in
+    let l = c .before .loop in
+    omega (arith, s .pre .queued .fits, s .pre .queued .few, s .pre .queued .small)
 
 add-v-2 : tie.Need-add-v-2 Inv-loop μ-loop
-add-v-2 c = let s = c .before .before .before .before in let l = c .before .loop in omega (arith, s .pre .queued .fits, s .pre .queued .few, s .pre .queued .small)
+add-v-2 c =
+    let s = c .before .before .before .before in
+    let l = c .before .loop in
+    omega (arith, s .pre .queued .fits, s .pre .queued .few, s .pre .queued .small)
 
 mul-v : tie.Need-mul-v Inv-loop μ-loop
-mul-v c = let s = c .before .before .before .before in let l = c .before .loop in omega (arith, s .pre .queued .fits, s .pre .queued .few, s .pre .queued .small)
+mul-v c =
+    let s = c .before .before .before .before in
+    let l = c .before .loop in
+    omega (arith, s .pre .queued .fits, s .pre .queued .few, s .pre .queued .small)
 
 shared-slice-read-v : tie.Need-shared-slice-read-v Inv-loop μ-loop
-shared-slice-read-v c = let s = c .before .before .before .before .before in let l = c .before .before .loop in omega (arith, s .pre .queued .fits, s .pre .queued .few, s .pre .queued .small)
+shared-slice-read-v c =
+    let s = c .before .before .before .before .before in
+    let l = c .before .before .loop in
+    omega (arith, s .pre .queued .fits, s .pre .queued .few, s .pre .queued .small)
 
 cast-v : tie.Need-cast-v Inv-loop μ-loop
-cast-v c = let s = c .before .before .before .before .before in let l = c .before .before .loop in omega (arith, s .pre .queued .member (l .i) (c .before .loop-test .taken), s .pre .queued .small)
+cast-v c =
+    let s = c .before .before .before .before .before in
+    let l = c .before .before .loop in
+    omega (arith, s .pre .queued .member (l .i) (c .before .loop-test .taken), s .pre .queued .small)
 
 strike-requires : tie.Need-strike-requires Inv-loop μ-loop
-strike-requires c κs = let s = c .before .before .before .before .before .before in let l = c .before .before .before .loop in strike-ask (s .args .n) (s .args .b) (s .args .w .now) (s .args .k) (s .args .words .now) (s .args .size) (s .pre) (l .i) (c .before .before .loop-test .taken) (l .words) (l .left) (l .inv .1)
+strike-requires c κs =
+    let s = c .before .before .before .before .before .before in
+    let l = c .before .before .before .loop in
+    strike-ask (s .pre) (c .before .before .loop-test .taken) (l .inv .1)
 
 add-i : tie.Need-add-i Inv-loop μ-loop
 add-i c = omega arith
@@ -40,13 +60,20 @@ loop-less : tie.Need-loop-less Inv-loop μ-loop
 loop-less c = omega arith
 
 loop-again : tie.Need-loop-again Inv-loop μ-loop
-loop-again c = let s = c .before .before .before .before .before .before .before .before .before in let l = c .before .before .before .before .before .before .loop in (omega arith, erase-step (s .args .n) (s .args .b) (s .args .w .now) (s .args .k) (s .args .words .now) (s .args .size) (s .pre) (l .i) (c .before .before .before .before .before .loop-test .taken) (l .words) (l .left) (l .inv .1) _ _ (c .before .before .strike .ensures))
+loop-again c =
+    let s = c .before .before .before .before .before .before .before .before .before in
+    let l = c .before .before .before .before .before .before .loop in
+    (omega arith, erase-step (s .pre) (c .before .before .before .before .before .loop-test .taken) (l .inv .1) (c .before .before .strike .ensures))
 
 same-length : tie.Need-same-length Inv-loop μ-loop
 same-length c = c .before .loop .inv .1 .long
 
 returns : tie.Need-returns Inv-loop μ-loop
-returns c = let s = c .before .before .before .before in let l = c .before .loop in let e : l .i ≡ s .args .k = omega arith in rw e at (l .inv .1)
+returns c =
+    let s = c .before .before .before .before in
+    let l = c .before .loop in
+    let e : l .i ≡ s .args .k = omega arith in
+    rw e at (l .inv .1)
 
 pub erase-spec : {M : Type 1} → statement M
 erase-spec =

@@ -20,13 +20,18 @@ remove-requires : tie.Need-remove-requires
 remove-requires c κs = search needs
 
 sub-result : tie.Need-sub-result
-sub-result c = let s = c .before .before .before .before .before .before .before .before in omega (arith, s .pre .some (omega (arith, c .before .before .before .before .if1 .left, c .before .before .before .before .before .has .ensures, bit-lt (s .args .words .now) (s .args .v))))
+sub-result c =
+    let s = c .before .before .before .before .before .before .before .before in
+    omega (arith, s .pre .some (omega (arith, c .before .before .before .before .if1 .left, c .before .before .before .before .before .has .ensures, bit-lt (s .args .words .now) (s .args .v))))
 
 same-length-2 : tie.Need-same-length-2
 same-length-2 c = search needs
 
 returns-2 : tie.Need-returns-2
-returns-2 c = let s = c .before .before .before .before .before .before .before .before in let e : bit (s .args .words .now) (s .args .v) ≡ 1 = omega (arith, c .before .before .before .before .if1 .left, c .before .before .before .before .before .has .ensures, bit-lt (s .args .words .now) (s .args .v)) in inr (e, c .before .before .remove .ensures, omega (arith, s .pre .some e))
+returns-2 c =
+    let s = c .before .before .before .before .before .before .before .before in
+    let e : bit (s .args .words .now) (s .args .v) ≡ 1 = omega (arith, c .before .before .before .before .if1 .left, c .before .before .before .before .before .has .ensures, bit-lt (s .args .words .now) (s .args .v)) in
+    inr (e, c .before .before .remove .ensures, omega (arith, s .pre .some e))
 
 pub strike-spec : {M : Type 1} → statement M
 strike-spec =

@@ -38,13 +38,17 @@ slice-read-c : tie.Need-slice-read-c
 slice-read-c c = search needs
 
 cast-c : tie.Need-cast-c
-cast-c c = omega (arith, c .slice-known3 .given (c .before .before .before .args .b + getD (c .before .before .before .args .w .now) (c .before .before .before .args .b + 9 * c .before .before .before .args .n + 2 + c .before .before .before .args .i) 0))
+cast-c c =
+    let s = c .before .before .before in
+    omega (arith, c .slice-known3 .given (s .args .b + getD (s .args .w .now) (s .args .b + 9 * s .args .n + 2 + s .args .i) 0))
 
 returns : tie.Need-returns
 returns c = inl (c .if1 .taken, refl, refl)
 
 link-requires : tie.Need-link-requires
-link-requires c κs = let s = c .before .before .before .before .before in s .pre .link (omega arith)
+link-requires c κs =
+    let s = c .before .before .before .before .before in
+    s .pre .link (omega arith)
 
 same-length : tie.Need-same-length
 same-length c = search needs

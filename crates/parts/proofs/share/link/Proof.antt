@@ -23,7 +23,9 @@ slice-read-t : tie.Need-slice-read-t
 slice-read-t c = search needs
 
 cast-t : tie.Need-cast-t
-cast-t c = omega (arith, c .slice-known .given (c .before .args .b + 2 * c .before .args .n + c .before .args .c))
+cast-t c =
+    let s = c .before in
+    omega (arith, c .slice-known .given (s .args .b + 2 * s .args .n + s .args .c))
 
 cast-w : tie.Need-cast-w
 cast-w c = search needs
@@ -59,7 +61,9 @@ mul-w-4 : tie.Need-mul-w-4
 mul-w-4 c = search needs
 
 slice-write-w-2 : tie.Need-slice-write-w-2
-slice-write-w-2 c = let s = c .before in simp length-set (omega (arith, s .pre .fits, s .pre .low))
+slice-write-w-2 c =
+    let s = c .before in
+    simp length-set (omega (arith, s .pre .fits, s .pre .low))
 
 cast-w-3 : tie.Need-cast-w-3
 cast-w-3 c = search needs
@@ -77,7 +81,9 @@ mul-w-6 : tie.Need-mul-w-6
 mul-w-6 c = search needs
 
 slice-write-w-3 : tie.Need-slice-write-w-3
-slice-write-w-3 c = let s = c .before .before in simp length-set (omega (arith, s .pre .fits, c .if1 .taken))
+slice-write-w-3 c =
+    let s = c .before .before in
+    simp length-set (omega (arith, s .pre .fits, c .if1 .taken))
 
 same-length : tie.Need-same-length
 same-length c = search needs
@@ -98,16 +104,24 @@ add-w-8 : tie.Need-add-w-8
 add-w-8 c = search needs
 
 add-w-9 : tie.Need-add-w-9
-add-w-9 c = let s = c .before .before in omega (arith, s .pre .room (omega arith), s .pre .fits)
+add-w-9 c =
+    let s = c .before .before in
+    omega (arith, s .pre .room (omega arith), s .pre .fits)
 
 mul-w-8 : tie.Need-mul-w-8
-mul-w-8 c = let s = c .before .before in omega (arith, s .pre .room (omega arith), s .pre .fits, s .good)
+mul-w-8 c =
+    let s = c .before .before in
+    omega (arith, s .pre .room (omega arith), s .pre .fits, s .good)
 
 slice-write-w-4 : tie.Need-slice-write-w-4
-slice-write-w-4 c = let s = c .before .before in simp length-set (omega (arith, s .pre .fits, s .pre .room (omega arith)))
+slice-write-w-4 c =
+    let s = c .before .before in
+    simp length-set (omega (arith, s .pre .fits, s .pre .room (omega arith)))
 
 add-result : tie.Need-add-result
-add-result c = let s = c .before .before in omega (arith, s .pre .room (omega arith), s .pre .small)
+add-result c =
+    let s = c .before .before in
+    omega (arith, s .pre .room (omega arith), s .pre .small)
 
 same-length-2 : tie.Need-same-length-2
 same-length-2 c = search needs

@@ -13,40 +13,77 @@ abbrev μ-loop : tie.MeasureT-loop
 μ-loop n w₀ b base lim h k₀ i₀ w k i = n - i
 
 loop-holds : tie.Need-loop-holds Inv-loop μ-loop
-loop-holds c = let s = c .before in (omega (arith, s .pre .first .low), λ a t. refl, share-start (s .args .n) (s .args .b) (s .args .base) (s .args .lim) (s .args .h) (s .args .w .now) (s .pre))
+loop-holds c =
+    let s = c .before in
+    (omega (arith, s .pre .first .low), λ a t. refl, share-start (s .pre))
 
 mul-y : tie.Need-mul-y Inv-loop μ-loop
-mul-y c = let s = c .before .before .before in let l = c .before .loop in omega (arith, l .inv .2 .long, s .pre .fits, s .pre .small)
+mul-y c =
+    let s = c .before .before .before in
+    let l = c .before .loop in
+    omega (arith, l .inv .2 .long, s .pre .fits, s .pre .small)
 
 add-y : tie.Need-add-y Inv-loop μ-loop
-add-y c = let s = c .before .before .before in let l = c .before .loop in omega (arith, l .inv .2 .long, s .pre .fits, s .pre .small)
+add-y c =
+    let s = c .before .before .before in
+    let l = c .before .loop in
+    omega (arith, l .inv .2 .long, s .pre .fits, s .pre .small)
 
 add-y-2 : tie.Need-add-y-2 Inv-loop μ-loop
-add-y-2 c = let s = c .before .before .before in let l = c .before .loop in omega (arith, l .inv .2 .long, s .pre .fits, s .pre .small)
+add-y-2 c =
+    let s = c .before .before .before in
+    let l = c .before .loop in
+    omega (arith, l .inv .2 .long, s .pre .fits, s .pre .small)
 
 mul-y-2 : tie.Need-mul-y-2 Inv-loop μ-loop
-mul-y-2 c = let s = c .before .before .before in let l = c .before .loop in omega (arith, l .inv .2 .long, s .pre .fits, s .pre .small)
+mul-y-2 c =
+    let s = c .before .before .before in
+    let l = c .before .loop in
+    omega (arith, l .inv .2 .long, s .pre .fits, s .pre .small)
 
 slice-read-y : tie.Need-slice-read-y Inv-loop μ-loop
-slice-read-y c = let s = c .before .before .before .before in let l = c .before .before .loop in omega (arith, l .inv .2 .long, s .pre .fits, s .pre .small)
+slice-read-y c =
+    let s = c .before .before .before .before in
+    let l = c .before .before .loop in
+    omega (arith, l .inv .2 .long, s .pre .fits, s .pre .small)
 
 cast-y : tie.Need-cast-y Inv-loop μ-loop
-cast-y c = let s = c .before .before .before .before in let l = c .before .before .loop in omega (arith, next-of (s .args .n) (s .args .b) (s .args .base) (s .args .lim) (s .args .h) (s .args .w .now) (s .pre) (l .i) (l .w) (l .k) (l .inv .2) (c .before .loop-test .taken) (l .inv .1 (s .pre) (c .before .loop-test .taken)) .most, s .pre .small)
+cast-y c =
+    let s = c .before .before .before .before in
+    let l = c .before .before .loop in
+    let h = c .before .loop-test .taken in
+    omega (arith, next-of (s .pre) (l .inv .2) h (l .inv .1 (s .pre) h) .most, s .pre .small)
 
 hang-requires : tie.Need-hang-requires Inv-loop μ-loop
-hang-requires c κs = let s = c .before .before .before .before .before in let l = c .before .before .before .loop in hang-ask (s .args .n) (s .args .b) (s .args .base) (s .args .lim) (s .args .h) (s .args .w .now) (s .pre) (l .i) (l .w) (l .k) (l .inv .2) (c .before .before .loop-test .taken) (l .inv .1 (s .pre) (c .before .before .loop-test .taken))
+hang-requires c κs =
+    let s = c .before .before .before .before .before in
+    let l = c .before .before .before .loop in
+    let h = c .before .before .loop-test .taken in
+    hang-ask (s .pre) (l .inv .2) h (l .inv .1 (s .pre) h)
 
 loop-less : tie.Need-loop-less Inv-loop μ-loop
-loop-less c = let s = c .before .before .before .before .before .before .before .before in let l = c .before .before .before .before .before .before .loop in omega (arith, next-of (s .args .n) (s .args .b) (s .args .base) (s .args .lim) (s .args .h) (s .args .w .now) (s .pre) (l .i) (l .w) (l .k) (l .inv .2) (c .before .before .before .before .before .loop-test .taken) (l .inv .1 (s .pre) (c .before .before .before .before .before .loop-test .taken)) .more)
+loop-less c =
+    let s = c .before .before .before .before .before .before .before .before in
+    let l = c .before .before .before .before .before .before .loop in
+    let h = c .before .before .before .before .before .loop-test .taken in
+    omega (arith, next-of (s .pre) (l .inv .2) h (l .inv .1 (s .pre) h) .more)
 
 loop-again : tie.Need-loop-again Inv-loop μ-loop
-loop-again c = let s = c .before .before .before .before .before .before .before .before in let l = c .before .before .before .before .before .before .loop in (next-of (s .args .n) (s .args .b) (s .args .base) (s .args .lim) (s .args .h) (s .args .w .now) (s .pre) (l .i) (l .w) (l .k) (l .inv .2) (c .before .before .before .before .before .loop-test .taken) (l .inv .1 (s .pre) (c .before .before .before .before .before .loop-test .taken)) .most, λ a t. share-here (s .args .n) (s .args .b) (s .args .base) (s .args .lim) (s .args .h) (s .args .w .now) a (l .i) (l .w) (l .k) (l .inv .2) (c .before .before .before .before .before .loop-test .taken) (l .inv .1 a (c .before .before .before .before .before .loop-test .taken)) t, share-step (s .args .n) (s .args .b) (s .args .base) (s .args .lim) (s .args .h) (s .args .w .now) (s .pre) (l .i) (l .w) (l .k) (l .inv .2) (c .before .before .before .before .before .loop-test .taken) (l .inv .1 (s .pre) (c .before .before .before .before .before .loop-test .taken)) _ _ (c .before .before .hang .ensures))
+loop-again c =
+    let s = c .before .before .before .before .before .before .before .before in
+    let l = c .before .before .before .before .before .before .loop in
+    let h = c .before .before .before .before .before .loop-test .taken in
+    (next-of (s .pre) (l .inv .2) h (l .inv .1 (s .pre) h) .most, λ a t. share-here a (l .inv .2) h (l .inv .1 a h) t, share-step (s .pre) (l .inv .2) h (l .inv .1 (s .pre) h) (c .before .before .hang .ensures))
 
 same-length : tie.Need-same-length Inv-loop μ-loop
 same-length c = c .before .loop .inv .2 .long
 
 returns : tie.Need-returns Inv-loop μ-loop
-returns c = let s = c .before .before .before in let l = c .before .loop in let y : l .i ≡ s .args .n = omega arith in rw y at (l .inv .2)
+returns c =
+    let s = c .before .before .before in
+    let l = c .before .loop in
+    let y : l .i ≡ s .args .n = omega arith in
+    rw y at (l .inv .2)
 
 pub share-spec : {M : Type 1} → statement M
 share-spec =

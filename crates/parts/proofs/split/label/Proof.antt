@@ -9,10 +9,14 @@ lowest-requires : tie.Need-lowest-requires
 lowest-requires c κs = search needs
 
 cast-name : tie.Need-cast-name
-cast-name c = let s = c .before .before .before .before in let l = c .before .lowest .ensures in omega (arith, s .pre .queued .small, low-le l (s .pre .queued))
+cast-name c =
+    let s = c .before .before .before .before in
+    omega (arith, s .pre .queued .small, low-le (c .before .lowest .ensures) (s .pre .queued))
 
 name-requires : tie.Need-name-requires
-name-requires c κs = let s = c .before .before .before .before in let l = c .before .lowest .ensures in record { queued = s .pre .queued; other = λ e. omega (arith, e, s .pre .part, low-le l (s .pre .queued)) }
+name-requires c κs =
+    let s = c .before .before .before .before in
+    record { queued = s .pre .queued; other = λ e. omega (arith, e, s .pre .part, low-le (c .before .lowest .ensures) (s .pre .queued)) }
 
 same-length : tie.Need-same-length
 same-length c = search needs

@@ -14,31 +14,49 @@ abbrev μ-loop : tie.MeasureT-loop
 μ-loop n w b k d l₀ i₀ l i = k - i
 
 loop-holds : tie.Need-loop-holds Inv-loop μ-loop
-loop-holds c = let s = c .before in (omega arith, lowest-none (s .args .n) (s .args .b) (s .args .w .now) (s .args .d))
+loop-holds c =
+    let s = c .before in
+    (omega arith, lowest-none (s .args .n) (s .args .b) (s .args .w .now) (s .args .d))
 
 add-v : tie.Need-add-v Inv-loop μ-loop
-add-v c = omega (arith, c .before .before .before .pre .fits, c .before .before .before .pre .few, c .before .before .before .pre .small)
+add-v c =
+    let s = c .before .before .before in
+    omega (arith, s .pre .fits, s .pre .few, s .pre .small)
 
 add-v-2 : tie.Need-add-v-2 Inv-loop μ-loop
-add-v-2 c = omega (arith, c .before .before .before .pre .fits, c .before .before .before .pre .few, c .before .before .before .pre .small)
+add-v-2 c =
+    let s = c .before .before .before in
+    omega (arith, s .pre .fits, s .pre .few, s .pre .small)
 
 mul-v : tie.Need-mul-v Inv-loop μ-loop
-mul-v c = omega (arith, c .before .before .before .pre .fits, c .before .before .before .pre .few, c .before .before .before .pre .small)
+mul-v c =
+    let s = c .before .before .before in
+    omega (arith, s .pre .fits, s .pre .few, s .pre .small)
 
 shared-slice-read-v : tie.Need-shared-slice-read-v Inv-loop μ-loop
-shared-slice-read-v c = omega (arith, c .before .before .before .before .pre .fits, c .before .before .before .before .pre .few, c .before .before .before .before .pre .small)
+shared-slice-read-v c =
+    let s = c .before .before .before .before in
+    omega (arith, s .pre .fits, s .pre .few, s .pre .small)
 
 cast-v : tie.Need-cast-v Inv-loop μ-loop
-cast-v c = omega (arith, c .before .before .before .before .pre .fits, c .before .before .before .before .pre .few, c .before .before .before .before .pre .small, c .before .before .before .before .pre .member (c .before .before .loop .i) (omega arith))
+cast-v c =
+    let s = c .before .before .before .before in
+    omega (arith, s .pre .fits, s .pre .few, s .pre .small, s .pre .member (c .before .before .loop .i) (omega arith))
 
 add-lower : tie.Need-add-lower Inv-loop μ-loop
-add-lower c = omega (arith, c .before .before .before .before .pre .fits, c .before .before .before .before .pre .few, c .before .before .before .before .pre .small, c .before .before .before .before .pre .member (c .before .before .loop .i) (omega arith))
+add-lower c =
+    let s = c .before .before .before .before in
+    omega (arith, s .pre .fits, s .pre .few, s .pre .small, s .pre .member (c .before .before .loop .i) (omega arith))
 
 mul-lower : tie.Need-mul-lower Inv-loop μ-loop
-mul-lower c = omega (arith, c .before .before .before .before .pre .fits, c .before .before .before .before .pre .few, c .before .before .before .before .pre .small, c .before .before .before .before .pre .member (c .before .before .loop .i) (omega arith))
+mul-lower c =
+    let s = c .before .before .before .before in
+    omega (arith, s .pre .fits, s .pre .few, s .pre .small, s .pre .member (c .before .before .loop .i) (omega arith))
 
 shared-slice-read-lower : tie.Need-shared-slice-read-lower Inv-loop μ-loop
-shared-slice-read-lower c = omega (arith, c .before .before .before .before .before .pre .fits, c .before .before .before .before .before .pre .few, c .before .before .before .before .before .pre .small, c .before .before .before .before .before .pre .member (c .before .before .before .loop .i) (omega arith))
+shared-slice-read-lower c =
+    let s = c .before .before .before .before .before in
+    omega (arith, s .pre .fits, s .pre .few, s .pre .small, s .pre .member (c .before .before .before .loop .i) (omega arith))
 
 lower-requires : tie.Need-lower-requires Inv-loop μ-loop
 lower-requires c κs = search needs
@@ -50,10 +68,16 @@ loop-less : tie.Need-loop-less Inv-loop μ-loop
 loop-less c = omega arith
 
 loop-again : tie.Need-loop-again Inv-loop μ-loop
-loop-again c = let s = c .before .before .before .before .before .before in let l = c .before .before .before .before .loop in (omega arith, lowest-step (s .args .n) (s .args .b) (s .args .w .now) (l .i) (s .args .d) (l .l) _ (l .inv .1) (c .lower .ensures))
+loop-again c =
+    let l = c .before .before .before .before .loop in
+    (omega arith, lowest-step (l .inv .1) (c .lower .ensures))
 
 returns : tie.Need-returns Inv-loop μ-loop
-returns c = let s = c .before .before .before in let l = c .before .loop in let e : l .i ≡ s .args .k = omega arith in rw e at (l .inv .1)
+returns c =
+    let s = c .before .before .before in
+    let l = c .before .loop in
+    let e : l .i ≡ s .args .k = omega arith in
+    rw e at (l .inv .1)
 
 pub lowest-spec : {M : Type 1} → statement M
 lowest-spec =

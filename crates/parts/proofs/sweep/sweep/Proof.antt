@@ -13,40 +13,72 @@ abbrev μ-loop : tie.MeasureT-loop
 μ-loop sources targets n w₀ b h q top0 top₀ i₀ w top i = n - i
 
 loop-holds : tie.Need-loop-holds Inv-loop μ-loop
-loop-holds c = let s = c .before .before .before in λ a. sweep-none (graph (s .args .n) (s .args .sources .now) (s .args .targets .now)) (s .args .b) (s .args .h) (s .args .q) (s .args .top0) (s .args .w .now) a
+loop-holds c = λ a. sweep-none a
 
 mul-y : tie.Need-mul-y Inv-loop μ-loop
-mul-y c = let s = c .before .before .before .before .before in let l = c .before .loop in omega (arith, sweep-stage (graph (s .args .n) (s .args .sources .now) (s .args .targets .now)) (s .args .b) (s .args .h) (s .args .q) (s .args .top0) (s .args .w .now) (s .pre) (l .i) (l .w) (l .top) (l .inv (s .pre)) .long, s .pre .stage .tables .small)
+mul-y c =
+    let s = c .before .before .before .before .before in
+    let l = c .before .loop in
+    omega (arith, sweep-stage (s .pre) (l .inv (s .pre)) .long, s .pre .stage .tables .small)
 
 add-y : tie.Need-add-y Inv-loop μ-loop
-add-y c = let s = c .before .before .before .before .before in let l = c .before .loop in omega (arith, sweep-stage (graph (s .args .n) (s .args .sources .now) (s .args .targets .now)) (s .args .b) (s .args .h) (s .args .q) (s .args .top0) (s .args .w .now) (s .pre) (l .i) (l .w) (l .top) (l .inv (s .pre)) .long, s .pre .stage .tables .small)
+add-y c =
+    let s = c .before .before .before .before .before in
+    let l = c .before .loop in
+    omega (arith, sweep-stage (s .pre) (l .inv (s .pre)) .long, s .pre .stage .tables .small)
 
 add-y-2 : tie.Need-add-y-2 Inv-loop μ-loop
-add-y-2 c = let s = c .before .before .before .before .before in let l = c .before .loop in omega (arith, sweep-stage (graph (s .args .n) (s .args .sources .now) (s .args .targets .now)) (s .args .b) (s .args .h) (s .args .q) (s .args .top0) (s .args .w .now) (s .pre) (l .i) (l .w) (l .top) (l .inv (s .pre)) .long, s .pre .stage .tables .small)
+add-y-2 c =
+    let s = c .before .before .before .before .before in
+    let l = c .before .loop in
+    omega (arith, sweep-stage (s .pre) (l .inv (s .pre)) .long, s .pre .stage .tables .small)
 
 mul-y-2 : tie.Need-mul-y-2 Inv-loop μ-loop
-mul-y-2 c = let s = c .before .before .before .before .before in let l = c .before .loop in omega (arith, sweep-stage (graph (s .args .n) (s .args .sources .now) (s .args .targets .now)) (s .args .b) (s .args .h) (s .args .q) (s .args .top0) (s .args .w .now) (s .pre) (l .i) (l .w) (l .top) (l .inv (s .pre)) .long, s .pre .stage .tables .small)
+mul-y-2 c =
+    let s = c .before .before .before .before .before in
+    let l = c .before .loop in
+    omega (arith, sweep-stage (s .pre) (l .inv (s .pre)) .long, s .pre .stage .tables .small)
 
 slice-read-y : tie.Need-slice-read-y Inv-loop μ-loop
-slice-read-y c = let s = c .before .before .before .before .before .before in let l = c .before .before .loop in omega (arith, sweep-stage (graph (s .args .n) (s .args .sources .now) (s .args .targets .now)) (s .args .b) (s .args .h) (s .args .q) (s .args .top0) (s .args .w .now) (s .pre) (l .i) (l .w) (l .top) (l .inv (s .pre)) .long, s .pre .stage .tables .small)
+slice-read-y c =
+    let s = c .before .before .before .before .before .before in
+    let l = c .before .before .loop in
+    omega (arith, sweep-stage (s .pre) (l .inv (s .pre)) .long, s .pre .stage .tables .small)
 
 cast-y : tie.Need-cast-y Inv-loop μ-loop
-cast-y c = let s = c .before .before .before .before .before .before in let l = c .before .before .loop in omega (arith, s .pre .stage .tables .small, next-is (graph (s .args .n) (s .args .sources .now) (s .args .targets .now)) (s .args .b) (s .args .h) (s .args .q) (s .args .top0) (s .args .w .now) (s .pre) (l .i) (l .w) (l .top) (l .inv (s .pre)) (c .before .loop-test .taken) .most)
+cast-y c =
+    let s = c .before .before .before .before .before .before in
+    let l = c .before .before .loop in
+    omega (arith, s .pre .stage .tables .small, next-is (s .pre) (l .inv (s .pre)) (c .before .loop-test .taken) .most)
 
 turn-requires : tie.Need-turn-requires Inv-loop μ-loop
-turn-requires c κs = let s = c .before .before .before .before .before .before .before in let l = c .before .before .before .loop in sweep-turn (graph (s .args .n) (s .args .sources .now) (s .args .targets .now)) (s .args .b) (s .args .h) (s .args .q) (s .args .top0) (s .args .w .now) (s .pre) (l .i) (l .w) (l .top) (l .inv (s .pre)) (c .before .before .loop-test .taken)
+turn-requires c κs =
+    let s = c .before .before .before .before .before .before .before in
+    let l = c .before .before .before .loop in
+    sweep-turn (s .pre) (l .inv (s .pre)) (c .before .before .loop-test .taken)
 
 loop-less : tie.Need-loop-less Inv-loop μ-loop
-loop-less c = let s = c .before .before .before .before .before .before .before .before .before .before in let l = c .before .before .before .before .before .before .loop in omega (arith, next-is (graph (s .args .n) (s .args .sources .now) (s .args .targets .now)) (s .args .b) (s .args .h) (s .args .q) (s .args .top0) (s .args .w .now) (s .pre) (l .i) (l .w) (l .top) (l .inv (s .pre)) (c .before .before .before .before .before .loop-test .taken) .more)
+loop-less c =
+    let s = c .before .before .before .before .before .before .before .before .before .before in
+    let l = c .before .before .before .before .before .before .loop in
+    omega (arith, next-is (s .pre) (l .inv (s .pre)) (c .before .before .before .before .before .loop-test .taken) .more)
 
 loop-again : tie.Need-loop-again Inv-loop μ-loop
-loop-again c = let s = c .before .before .before .before .before .before .before .before .before .before in let l = c .before .before .before .before .before .before .loop in λ a. sweep-step (graph (s .args .n) (s .args .sources .now) (s .args .targets .now)) (s .args .b) (s .args .h) (s .args .q) (s .args .top0) (s .args .w .now) a (l .i) (l .w) (l .top) (l .inv a) (c .before .before .before .before .before .loop-test .taken) _ _ (c .before .before .turn .ensures)
+loop-again c =
+    let l = c .before .before .before .before .before .before .loop in
+    λ a. sweep-step a (l .inv a) (c .before .before .before .before .before .loop-test .taken) (c .before .before .turn .ensures)
 
 same-length : tie.Need-same-length Inv-loop μ-loop
-same-length c = let s = c .before .before .before .before .before in let l = c .before .loop in sweep-long (graph (s .args .n) (s .args .sources .now) (s .args .targets .now)) (s .args .b) (s .args .h) (s .args .q) (s .args .top0) (s .args .w .now) (s .pre) (l .i) (l .w) (l .top) (l .inv (s .pre))
+same-length c =
+    let s = c .before .before .before .before .before in
+    let l = c .before .loop in
+    sweep-long (s .pre) (l .inv (s .pre))
 
 returns : tie.Need-returns Inv-loop μ-loop
-returns c = let s = c .before .before .before .before .before in let l = c .before .loop in sweep-all (graph (s .args .n) (s .args .sources .now) (s .args .targets .now)) (s .args .b) (s .args .h) (s .args .q) (s .args .top0) (s .args .w .now) (s .pre) (l .i) (l .w) (l .top) (l .inv (s .pre)) (c .loop-test .left)
+returns c =
+    let s = c .before .before .before .before .before in
+    let l = c .before .loop in
+    sweep-all (s .pre) (l .inv (s .pre)) (c .loop-test .left)
 
 pub sweep-spec : {M : Type 1} → statement M
 sweep-spec =

@@ -25,28 +25,42 @@ slice-read-p : tie.Need-slice-read-p
 slice-read-p c = search needs
 
 cast-p : tie.Need-cast-p
-cast-p c = let s = c .before .before .before .before in omega (arith, top-le (s .pre .stage), s .pre .stage .tables .small, s .pre .stage .long, s .pre .stage .placed .low (s .args .i) (s .pre .low))
+cast-p c =
+    let s = c .before .before .before .before in
+    omega (arith, top-le (s .pre .stage), s .pre .stage .tables .small, s .pre .stage .long, s .pre .stage .placed .low (s .args .i) (s .pre .low))
 
 add-if1 : tie.Need-add-if1
-add-if1 c = let s = c .before .before .before .before in omega (arith, top-le (s .pre .stage), s .pre .stage .tables .small, s .pre .stage .long, s .pre .stage .placed .low (s .args .i) (s .pre .low))
+add-if1 c =
+    let s = c .before .before .before .before in
+    omega (arith, top-le (s .pre .stage), s .pre .stage .tables .small, s .pre .stage .long, s .pre .stage .placed .low (s .args .i) (s .pre .low))
 
 mul-if1 : tie.Need-mul-if1
-mul-if1 c = let s = c .before .before .before .before in omega (arith, top-le (s .pre .stage), s .pre .stage .tables .small, s .pre .stage .long, s .pre .stage .placed .low (s .args .i) (s .pre .low))
+mul-if1 c =
+    let s = c .before .before .before .before in
+    omega (arith, top-le (s .pre .stage), s .pre .stage .tables .small, s .pre .stage .long, s .pre .stage .placed .low (s .args .i) (s .pre .low))
 
 slice-read-if1 : tie.Need-slice-read-if1
-slice-read-if1 c = let s = c .before .before .before .before .before in omega (arith, top-le (s .pre .stage), s .pre .stage .tables .small, s .pre .stage .long, s .pre .stage .placed .low (s .args .i) (s .pre .low))
+slice-read-if1 c =
+    let s = c .before .before .before .before .before in
+    omega (arith, top-le (s .pre .stage), s .pre .stage .tables .small, s .pre .stage .long, s .pre .stage .placed .low (s .args .i) (s .pre .low))
 
 returns : tie.Need-returns
 returns c = inr (c .if1 .taken, refl, refl)
 
 cast-split : tie.Need-cast-split
-cast-split c = let s = c .before .before .before .before .before .before .before in omega (arith, top-le (s .pre .stage), s .pre .stage .tables .small, s .pre .stage .long, s .pre .stage .placed .low (s .args .i) (s .pre .low))
+cast-split c =
+    let s = c .before .before .before .before .before .before .before in
+    omega (arith, top-le (s .pre .stage), s .pre .stage .tables .small, s .pre .stage .long, s .pre .stage .placed .low (s .args .i) (s .pre .low))
 
 split-requires : tie.Need-split-requires
-split-requires c κs = let s = c .before .before .before .before .before .before .before in split-ask (s .pre .stage) (s .pre .stage .placed .low (s .args .i) (s .pre .low)) (c .before .if1 .left) (s .pre .part)
+split-requires c κs =
+    let s = c .before .before .before .before .before .before .before in
+    split-ask (s .pre .stage) (s .pre .stage .placed .low (s .args .i) (s .pre .low)) (c .before .if1 .left) (s .pre .part)
 
 add-result : tie.Need-add-result
-add-result c = let s = c .before .before .before .before .before .before .before .before .before .before in omega (arith, top-le (s .pre .stage), s .pre .stage .tables .small, s .pre .stage .long, s .pre .stage .placed .low (s .args .i) (s .pre .low))
+add-result c =
+    let s = c .before .before .before .before .before .before .before .before .before .before in
+    omega (arith, top-le (s .pre .stage), s .pre .stage .tables .small, s .pre .stage .long, s .pre .stage .placed .low (s .args .i) (s .pre .low))
 
 same-length : tie.Need-same-length
 same-length c = search needs
