@@ -25,38 +25,41 @@ slice-read-v c = search needs
 
 cast-v : tie.Need-cast-v
 cast-v c =
-    let s = c .before .before .before .before .before in
-    omega (arith, s .pre .stage .placed .low (s .args .h) (s .pre .first .low), s .pre .stage .tables .small, s .pre .stage .long)
+    let begins = c .before .before .before .before .before in
+    omega (arith, begins .pre .stage .placed .low (begins .args .h) (begins .pre .first .low), begins .pre .stage .tables .small, begins .pre .stage .long)
 
 add-q : tie.Need-add-q
 add-q c =
-    let s = c .before .before .before .before .before in
-    omega (arith, s .pre .stage .placed .low (s .args .h) (s .pre .first .low), s .pre .stage .tables .small, s .pre .stage .long)
+    let begins = c .before .before .before .before .before in
+    omega (arith, begins .pre .stage .placed .low (begins .args .h) (begins .pre .first .low), begins .pre .stage .tables .small, begins .pre .stage .long)
 
 mul-q : tie.Need-mul-q
 mul-q c =
-    let s = c .before .before .before .before .before in
-    omega (arith, s .pre .stage .placed .low (s .args .h) (s .pre .first .low), s .pre .stage .tables .small, s .pre .stage .long)
+    let begins = c .before .before .before .before .before in
+    omega (arith, begins .pre .stage .placed .low (begins .args .h) (begins .pre .first .low), begins .pre .stage .tables .small, begins .pre .stage .long)
 
 slice-read-q : tie.Need-slice-read-q
 slice-read-q c =
-    let s = c .before .before .before .before .before .before in
-    omega (arith, s .pre .stage .placed .low (s .args .h) (s .pre .first .low), s .pre .stage .tables .small, s .pre .stage .long)
+    let begins = c .before .before .before .before .before .before in
+    omega (arith, begins .pre .stage .placed .low (begins .args .h) (begins .pre .first .low), begins .pre .stage .tables .small, begins .pre .stage .long)
 
 prune-requires : tie.Need-prune-requires
 prune-requires c κs =
-    let s = c .before .before .before .before .before .before .before in
-    divide-trim (s .pre) (λ e. refl)
+    let begins = c .before .before .before .before .before .before .before in
+    divide-trim (begins .pre) (λ e. refl)
 
 swept-requires : tie.Need-swept-requires
 swept-requires c κs =
-    let s = c .before .before .before .before .before .before .before .before .before .before .before .before in
-    divide-sweep (s .pre) (c .before .before .before .before .prune .ensures)
+    let at-prune = c .before .before .before .before in
+    let begins = at-prune .before .before .before .before .before .before .before .before in
+    divide-sweep (begins .pre) (at-prune .prune .ensures)
 
 share-requires : tie.Need-share-requires
 share-requires c κs =
-    let s = c .before .before .before .before .before .before .before .before .before .before .before .before .before .before .before .before .before .before in
-    divide-share (s .pre) (c .before .before .before .before .before .before .before .before .before .before .prune .ensures) (c .before .before .before .before .before .swept .ensures)
+    let at-swept = c .before .before .before .before .before in
+    let at-prune = at-swept .before .before .before .before .before in
+    let begins = at-prune .before .before .before .before .before .before .before .before in
+    divide-share (begins .pre) (at-prune .prune .ensures) (at-swept .swept .ensures)
 
 same-length : tie.Need-same-length
 same-length c = search needs
@@ -66,8 +69,10 @@ same-length-2 c = search needs
 
 returns : tie.Need-returns
 returns c =
-    let s = c .before .before .before .before .before .before .before .before .before .before .before .before .before .before .before .before .before .before .before .before .before in
-    divide-all (s .pre) (c .before .before .before .before .before .before .before .before .before .before .before .before .before .prune .ensures) (c .before .before .before .before .before .before .before .before .swept .ensures) (c .before .before .share .ensures)
+    let at-swept = c .before .before .before .before .before .before .before .before in
+    let at-prune = at-swept .before .before .before .before .before in
+    let begins = at-prune .before .before .before .before .before .before .before .before in
+    divide-all (begins .pre) (at-prune .prune .ensures) (at-swept .swept .ensures) (c .before .before .share .ensures)
 
 pub divide-spec : {M : Type 1} → statement M
 divide-spec =

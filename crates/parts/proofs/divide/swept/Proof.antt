@@ -14,13 +14,13 @@ slice-relend-prefix-sweep c = search needs
 
 slice-aggregate-sweep : tie.Need-slice-aggregate-sweep
 slice-aggregate-sweep c =
-    let s = c .before .before .before .before .before .before .before in
-    sym (length-take-le (wordsOf (s .args .n)) (s .args .words .now) (s .pre .blank .words))
+    let begins = c .before .before .before .before .before .before .before in
+    sym (length-take-le (wordsOf (begins .args .n)) (begins .args .words .now) (begins .pre .blank .words))
 
 sweep-requires : tie.Need-sweep-requires
 sweep-requires c κs =
-    let s = c .before .before .before .before .before .before .before in
-    lent-ask (s .pre)
+    let begins = c .before .before .before .before .before .before .before in
+    lent-ask (begins .pre)
 
 same-length : tie.Need-same-length
 same-length c = search needs
@@ -30,8 +30,10 @@ same-length-2 c = search needs
 
 returns : tie.Need-returns
 returns c =
-    let s = c .before .before .before .before .before .before .before .before .before .before .before .before in
-    kind-drawn (s .pre) (c .before .before .before .before .before .before .before .if1 .taken) (c .before .before .before .before .sweep .ensures)
+    let at-sweep = c .before .before .before .before in
+    let at-if1 = at-sweep .before .before .before in
+    let begins = at-if1 .before .before .before .before .before in
+    kind-drawn (begins .pre) (at-if1 .if1 .taken) (at-sweep .sweep .ensures)
 
 sweep-requires-2 : tie.Need-sweep-requires-2
 sweep-requires-2 c κs = search needs
@@ -41,8 +43,9 @@ same-length-3 c = search needs
 
 returns-2 : tie.Need-returns-2
 returns-2 c =
-    let s = c .before .before .before .before .before .before .before .before .before in
-    kind-chain (s .pre) (c .before .before .before .before .if1 .left) (c .before .before .sweep2 .ensures)
+    let at-if1 = c .before .before .before .before in
+    let begins = at-if1 .before .before .before .before .before in
+    kind-chain (begins .pre) (at-if1 .if1 .left) (c .before .before .sweep2 .ensures)
 
 pub swept-spec : {M : Type 1} → statement M
 swept-spec =

@@ -13,12 +13,15 @@ add-rx-2 : tie.Need-add-rx-2
 add-rx-2 c = search needs
 
 search-requires : tie.Need-search-requires
-search-requires c κs = first-ask (c .before .before .before .before .before .pre .split) (λ e. refl)
+search-requires c κs =
+    let begins = c .before .before .before .before .before in
+    first-ask (begins .pre .split) (λ e. refl)
 
 erase-requires : tie.Need-erase-requires
 erase-requires c κs =
-    let s = c .before .before .before .before .before .before .before .before .before .before in
-    first-erase (s .pre .split) (c .before .before .before .before .search .ensures) (s .pre .marks)
+    let at-search = c .before .before .before .before in
+    let begins = at-search .before .before .before .before .before .before in
+    first-erase (begins .pre .split) (at-search .search .ensures) (begins .pre .marks)
 
 add-search : tie.Need-add-search
 add-search c = search needs
@@ -27,22 +30,30 @@ add-search-2 : tie.Need-add-search-2
 add-search-2 c = search needs
 
 search-requires-2 : tie.Need-search-requires-2
-search-requires-2 c κs = second-ask (c .before .before .before .before .before .before .before .before .before .before .before .before .before .before .pre .split) (c .before .before .before .before .before .before .before .before .search .ensures) (λ e. refl)
+search-requires-2 c κs =
+    let at-search = c .before .before .before .before .before .before .before .before in
+    let begins = at-search .before .before .before .before .before .before in
+    second-ask (begins .pre .split) (at-search .search .ensures) (λ e. refl)
 
 erase-requires-2 : tie.Need-erase-requires-2
 erase-requires-2 c κs =
-    let s = c .before .before .before .before .before .before .before .before .before .before .before .before .before .before .before .before .before .before .before in
-    second-erase (s .pre .split) (c .before .before .before .before .before .before .before .before .before .before .before .before .before .search .ensures) (s .pre .marks) (c .before .before .before .before .before .before .before .before .erase .ensures) (c .before .before .before .before .search2 .ensures)
+    let at-search2 = c .before .before .before .before in
+    let at-erase = at-search2 .before .before .before .before in
+    let at-search = at-erase .before .before .before .before .before in
+    let begins = at-search .before .before .before .before .before .before in
+    second-erase (begins .pre .split) (at-search .search .ensures) (begins .pre .marks) (at-erase .erase .ensures) (at-search2 .search2 .ensures)
 
 add-label : tie.Need-add-label
 add-label c =
-    let s = c .before .before .before .before .before .before .before .before .before .before .before .before .before .before .before .before .before .before .before .before .before .before .before in
-    omega (arith, s .pre .split .room)
+    let begins = c .before .before .before .before .before .before .before .before .before .before .before .before .before .before .before .before .before .before .before .before .before .before .before in
+    omega (arith, begins .pre .split .room)
 
 label-requires : tie.Need-label-requires
 label-requires c κs =
-    let s = c .before .before .before .before .before .before .before .before .before .before .before .before .before .before .before .before .before .before .before .before .before .before .before in
-    record { queued = queued (s .pre .split) (c .before .before .before .before .before .before .before .before .before .before .before .before .before .before .before .before .before .search .ensures) (c .before .before .before .before .before .before .before .before .search2 .ensures); part = omega (arith, s .pre .split .part, s .pre .split .owned .below (s .args .p) (s .pre .split .start), s .pre .split .live) }
+    let at-search2 = c .before .before .before .before .before .before .before .before in
+    let at-search = at-search2 .before .before .before .before .before .before .before .before .before in
+    let begins = at-search .before .before .before .before .before .before in
+    record { queued = queued (begins .pre .split) (at-search .search .ensures) (at-search2 .search2 .ensures); part = omega (arith, begins .pre .split .part, begins .pre .split .owned .below (begins .args .p) (begins .pre .split .start), begins .pre .split .live) }
 
 same-length : tie.Need-same-length
 same-length c = search needs
@@ -52,9 +63,13 @@ same-length-2 c = search needs
 
 returns : tie.Need-returns
 returns c =
-    let s = c .before .before .before .before .before .before .before .before .before .before .before .before .before .before .before .before .before .before .before .before .before .before .before .before .before .before in
+    let at-erase2 = c .before .before .before .before .before .before in
+    let at-search2 = at-erase2 .before .before .before .before .before in
+    let at-erase = at-search2 .before .before .before .before in
+    let at-search = at-erase .before .before .before .before .before in
+    let begins = at-search .before .before .before .before .before .before in
     let z = c .before .before .label .ensures in
-    cut-all (s .pre .split) (c .before .before .before .before .before .before .before .before .before .before .before .before .before .before .before .before .before .before .before .before .search .ensures) (s .pre .marks) (c .before .before .before .before .before .before .before .before .before .before .before .before .before .before .before .erase .ensures) (c .before .before .before .before .before .before .before .before .before .before .before .search2 .ensures) (c .before .before .before .before .before .before .erase2 .ensures) (z .lowest) (z .named)
+    cut-all (begins .pre .split) (at-search .search .ensures) (begins .pre .marks) (at-erase .erase .ensures) (at-search2 .search2 .ensures) (at-erase2 .erase2 .ensures) (z .lowest) (z .named)
 
 pub cut-spec : {M : Type 1} → statement M
 cut-spec =

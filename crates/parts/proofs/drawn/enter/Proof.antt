@@ -40,8 +40,8 @@ returns c = inr (c .if1 .taken, refl, refl)
 
 add-requires : tie.Need-add-requires
 add-requires c κs =
-    let s = c .before .before .before .before .before .before in
-    omega (arith, s .pre .vertex, s .pre .words)
+    let begins = c .before .before .before .before .before .before in
+    omega (arith, begins .pre .vertex, begins .pre .words)
 
 add-result : tie.Need-add-result
 add-result c = search needs
@@ -50,7 +50,9 @@ same-length : tie.Need-same-length
 same-length c = search needs
 
 returns-2 : tie.Need-returns-2
-returns-2 c = inl (c .before .before .before .before .if1 .left, c .before .before .add .ensures, refl)
+returns-2 c =
+    let at-if1 = c .before .before .before .before in
+    inl (at-if1 .if1 .left, c .before .before .add .ensures, refl)
 
 pub enter-spec : {M : Type 1} → statement M
 enter-spec =

@@ -17,68 +17,73 @@ loop-holds c = λ a. mark-none a
 
 mul-y : tie.Need-mul-y Inv-loop μ-loop
 mul-y c =
-    let s = c .before .before .before .before in
+    let begins = c .before .before .before .before in
     let l = c .before .loop in
-    omega (arith, s .pre .fits, s .pre .small)
+    omega (arith, begins .pre .fits, begins .pre .small)
 
 add-y : tie.Need-add-y Inv-loop μ-loop
 add-y c =
-    let s = c .before .before .before .before in
+    let begins = c .before .before .before .before in
     let l = c .before .loop in
-    omega (arith, s .pre .fits, s .pre .small)
+    omega (arith, begins .pre .fits, begins .pre .small)
 
 add-y-2 : tie.Need-add-y-2 Inv-loop μ-loop
 add-y-2 c =
-    let s = c .before .before .before .before in
+    let begins = c .before .before .before .before in
     let l = c .before .loop in
-    omega (arith, s .pre .fits, s .pre .small)
+    omega (arith, begins .pre .fits, begins .pre .small)
 
 mul-y-2 : tie.Need-mul-y-2 Inv-loop μ-loop
 mul-y-2 c =
-    let s = c .before .before .before .before in
+    let begins = c .before .before .before .before in
     let l = c .before .loop in
-    omega (arith, s .pre .fits, s .pre .small)
+    omega (arith, begins .pre .fits, begins .pre .small)
 
 shared-slice-read-y : tie.Need-shared-slice-read-y Inv-loop μ-loop
 shared-slice-read-y c =
-    let s = c .before .before .before .before .before in
+    let begins = c .before .before .before .before .before in
     let l = c .before .before .loop in
-    omega (arith, s .pre .fits, s .pre .small)
+    omega (arith, begins .pre .fits, begins .pre .small)
 
 cast-y : tie.Need-cast-y Inv-loop μ-loop
 cast-y c =
-    let s = c .before .before .before .before .before in
+    let begins = c .before .before .before .before .before in
     let l = c .before .before .loop in
-    omega (arith, mark-next (s .pre) (l .inv (s .pre)) (c .before .loop-test .taken) .most, s .pre .small)
+    omega (arith, mark-next (begins .pre) (l .inv (begins .pre)) (c .before .loop-test .taken) .most, begins .pre .small)
 
 enter-requires : tie.Need-enter-requires Inv-loop μ-loop
 enter-requires c κs =
-    let s = c .before .before .before .before .before .before in
-    let l = c .before .before .before .loop in
-    enter-ask (s .pre) (l .inv (s .pre)) (c .before .before .loop-test .taken)
+    let at-loop = c .before .before .before in
+    let begins = at-loop .before .before .before in
+    let l = at-loop .loop in
+    enter-ask (begins .pre) (l .inv (begins .pre)) (c .before .before .loop-test .taken)
 
 loop-less : tie.Need-loop-less Inv-loop μ-loop
 loop-less c =
-    let s = c .before .before .before .before .before .before .before .before .before in
-    let l = c .before .before .before .before .before .before .loop in
-    omega (arith, mark-next (s .pre) (l .inv (s .pre)) (c .before .before .before .before .before .loop-test .taken) .more)
+    let at-loop-test = c .before .before .before .before .before in
+    let at-loop = at-loop-test .before in
+    let begins = at-loop .before .before .before in
+    let l = at-loop .loop in
+    omega (arith, mark-next (begins .pre) (l .inv (begins .pre)) (at-loop-test .loop-test .taken) .more)
 
 loop-again : tie.Need-loop-again Inv-loop μ-loop
 loop-again c =
-    let l = c .before .before .before .before .before .before .loop in
-    λ a. mark-step a (l .inv a) (c .before .before .before .before .before .loop-test .taken) (c .before .before .enter .ensures)
+    let at-loop-test = c .before .before .before .before .before in
+    let at-loop = at-loop-test .before in
+    let l = at-loop .loop in
+    λ a. mark-step a (l .inv a) (at-loop-test .loop-test .taken) (c .before .before .enter .ensures)
 
 same-length : tie.Need-same-length Inv-loop μ-loop
 same-length c =
-    let s = c .before .before .before .before in
+    let begins = c .before .before .before .before in
     let l = c .before .loop in
-    l .inv (s .pre) .words ∙ sym (s .pre .empty .words)
+    l .inv (begins .pre) .words ∙ sym (begins .pre .empty .words)
 
 returns : tie.Need-returns Inv-loop μ-loop
 returns c =
-    let s = c .before .before .before .before in
+    let begins = c .before .before .before .before in
     let l = c .before .loop in
-    mark-all (s .pre) (l .inv (s .pre)) (omega (arith, c .loop-test .left))
+    mark-all (begins .pre) (l .inv (begins .pre)) (omega (arith, c .loop-test .left))
 
 pub mark-spec : {M : Type 1} → statement M
 mark-spec =

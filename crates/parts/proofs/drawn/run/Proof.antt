@@ -13,52 +13,61 @@ abbrev μ-loop : tie.MeasureT-loop
 μ-loop sources targets n w₀ words₀ b q state0 top0 size state₀ draws₀ top₀ left₀ w words state draws top left = left
 
 loop-holds : tie.Need-loop-holds Inv-loop μ-loop
-loop-holds c = drawing-none (c .before .before .before .before .pre)
+loop-holds c =
+    let begins = c .before .before .before .before in
+    drawing-none (begins .pre)
 
 turn-requires : tie.Need-turn-requires Inv-loop μ-loop
 turn-requires c κs =
-    let s = c .before .before .before .before .before .before .before .before in
-    let l = c .before .before .before .loop in
-    drawing-ask (s .pre) (l .inv) (c .before .before .loop-test .taken)
+    let at-loop = c .before .before .before in
+    let begins = at-loop .before .before .before .before .before in
+    let l = at-loop .loop in
+    drawing-ask (begins .pre) (l .inv) (c .before .before .loop-test .taken)
 
 add-top : tie.Need-add-top Inv-loop μ-loop
 add-top c =
-    let s = c .before .before .before .before .before .before .before .before .before .before .before .before .before in
-    let l = c .before .before .before .before .before .before .before .before .loop in
-    omega (arith, top-le (drawing-stage (s .pre) (l .inv)), s .pre .stage .tables .small)
+    let at-loop = c .before .before .before .before .before .before .before .before in
+    let begins = at-loop .before .before .before .before .before in
+    let l = at-loop .loop in
+    omega (arith, top-le (drawing-stage (begins .pre) (l .inv)), begins .pre .stage .tables .small)
 
 add-draws : tie.Need-add-draws Inv-loop μ-loop
 add-draws c =
-    let s = c .before .before .before .before .before .before .before .before .before .before .before .before .before in
-    let l = c .before .before .before .before .before .before .before .before .loop in
-    omega (arith, l .inv .few, s .pre .stage .tables .small)
+    let at-loop = c .before .before .before .before .before .before .before .before in
+    let begins = at-loop .before .before .before .before .before in
+    let l = at-loop .loop in
+    omega (arith, l .inv .few, begins .pre .stage .tables .small)
 
 loop-less : tie.Need-loop-less Inv-loop μ-loop
-loop-less c = c .before .before .before .before .turn .ensures .less
+loop-less c =
+    let at-turn = c .before .before .before .before in
+    at-turn .turn .ensures .less
 
 loop-again : tie.Need-loop-again Inv-loop μ-loop
 loop-again c =
-    let s = c .before .before .before .before .before .before .before .before .before .before .before .before .before in
-    let l = c .before .before .before .before .before .before .before .before .loop in
-    drawing-step (s .pre) (l .inv) (c .before .before .before .before .turn .ensures)
+    let at-turn = c .before .before .before .before in
+    let at-loop = at-turn .before .before .before .before in
+    let begins = at-loop .before .before .before .before .before in
+    let l = at-loop .loop in
+    drawing-step (begins .pre) (l .inv) (at-turn .turn .ensures)
 
 same-length : tie.Need-same-length Inv-loop μ-loop
 same-length c =
-    let s = c .before .before .before .before .before .before in
+    let begins = c .before .before .before .before .before .before in
     let l = c .before .loop in
-    drawing-long (s .pre) (l .inv)
+    drawing-long (begins .pre) (l .inv)
 
 same-length-2 : tie.Need-same-length-2 Inv-loop μ-loop
 same-length-2 c =
-    let s = c .before .before .before .before .before .before in
+    let begins = c .before .before .before .before .before .before in
     let l = c .before .loop in
-    l .inv .marks .words ∙ sym (s .pre .marks .words)
+    l .inv .marks .words ∙ sym (begins .pre .marks .words)
 
 returns : tie.Need-returns Inv-loop μ-loop
 returns c =
-    let s = c .before .before .before .before .before .before in
+    let begins = c .before .before .before .before .before .before in
     let l = c .before .loop in
-    drawing-all (s .pre) (l .inv) (λ h. absurd (omega (arith, h, c .loop-test .left)))
+    drawing-all (begins .pre) (l .inv) (λ h. absurd (omega (arith, h, c .loop-test .left)))
 
 pub run-spec : {M : Type 1} → statement M
 run-spec =

@@ -21,17 +21,21 @@ remove-requires c κs = search needs
 
 sub-result : tie.Need-sub-result
 sub-result c =
-    let s = c .before .before .before .before .before .before .before .before in
-    omega (arith, s .pre .some (omega (arith, c .before .before .before .before .if1 .left, c .before .before .before .before .before .has .ensures, bit-lt (s .args .words .now) (s .args .v))))
+    let at-if1 = c .before .before .before .before in
+    let at-has = at-if1 .before in
+    let begins = at-has .before .before .before in
+    omega (arith, begins .pre .some (omega (arith, at-if1 .if1 .left, at-has .has .ensures, bit-lt (begins .args .words .now) (begins .args .v))))
 
 same-length-2 : tie.Need-same-length-2
 same-length-2 c = search needs
 
 returns-2 : tie.Need-returns-2
 returns-2 c =
-    let s = c .before .before .before .before .before .before .before .before in
-    let e : bit (s .args .words .now) (s .args .v) ≡ 1 = omega (arith, c .before .before .before .before .if1 .left, c .before .before .before .before .before .has .ensures, bit-lt (s .args .words .now) (s .args .v)) in
-    inr (e, c .before .before .remove .ensures, omega (arith, s .pre .some e))
+    let at-if1 = c .before .before .before .before in
+    let at-has = at-if1 .before in
+    let begins = at-has .before .before .before in
+    let e : bit (begins .args .words .now) (begins .args .v) ≡ 1 = omega (arith, at-if1 .if1 .left, at-has .has .ensures, bit-lt (begins .args .words .now) (begins .args .v)) in
+    inr (e, c .before .before .remove .ensures, omega (arith, begins .pre .some e))
 
 pub strike-spec : {M : Type 1} → statement M
 strike-spec =

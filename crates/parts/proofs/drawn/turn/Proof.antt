@@ -17,24 +17,25 @@ cast-select c = search needs
 
 rem-select : tie.Need-rem-select
 rem-select c =
-    let s = c .before .before .before .before .before .before in
-    omega (arith, s .pre .some)
+    let begins = c .before .before .before .before .before .before in
+    omega (arith, begins .pre .some)
 
 select-requires : tie.Need-select-requires
 select-requires c κs =
-    let s = c .before .before .before .before .before .before in
-    marks-within (s .pre .marks) (s .pre .stage .tables .small) (s .pre .some) (c .before .next .result)
+    let begins = c .before .before .before .before .before .before in
+    marks-within (begins .pre .marks) (begins .pre .stage .tables .small) (begins .pre .some) (c .before .next .result)
 
 cast-cut : tie.Need-cast-cut
 cast-cut c =
-    let s = c .before .before .before .before .before .before .before .before .before in
-    omega (arith, top-le (s .pre .stage), s .pre .stage .tables .small)
+    let begins = c .before .before .before .before .before .before .before .before .before in
+    omega (arith, top-le (begins .pre .stage), begins .pre .stage .tables .small)
 
 cut-requires : tie.Need-cut-requires
 cut-requires c κs =
-    let s = c .before .before .before .before .before .before .before .before .before in
-    let y = marks-chosen (s .pre .marks) (s .pre .stage .tables .small) (s .pre .some) (s .args .state) (c .before .before .select .result) (c .before .before .select .ensures ∙ ap (λ (y : ℕ). member (s .args .n) (members (s .args .n) (s .args .words .now)) (y % s .args .left)) (c .before .before .before .before .next .ensures)) in
-    record { split = split-ask (s .pre .stage) (y .0) (y .1) (s .pre .part); marks = s .pre .marks }
+    let at-next = c .before .before .before .before in
+    let begins = at-next .before .before .before .before .before in
+    let y = marks-chosen (begins .pre .marks) (begins .pre .stage .tables .small) (begins .pre .some) (begins .args .state) (c .before .before .select .result) (c .before .before .select .ensures ∙ ap (λ (y : ℕ). member (begins .args .n) (members (begins .args .n) (begins .args .words .now)) (y % begins .args .left)) (at-next .next .ensures)) in
+    record { split = split-ask (begins .pre .stage) (y .0) (y .1) (begins .pre .part); marks = begins .pre .marks }
 
 same-length : tie.Need-same-length
 same-length c = search needs
@@ -44,8 +45,11 @@ same-length-2 c = search needs
 
 returns : tie.Need-returns
 returns c =
-    let s = c .before .before .before .before .before .before .before .before .before .before .before .before .before .before in
-    rw (c .before .before .before .before .before .before .before .before .before .next .ensures) (draw-all (s .pre) (marks-chosen (s .pre .marks) (s .pre .stage .tables .small) (s .pre .some) (s .args .state) (c .before .before .before .before .before .before .before .select .result) (c .before .before .before .before .before .before .before .select .ensures ∙ ap (λ (y : ℕ). member (s .args .n) (members (s .args .n) (s .args .words .now)) (y % s .args .left)) (c .before .before .before .before .before .before .before .before .before .next .ensures))) (c .before .before .before .before .cut .ensures))
+    let at-cut = c .before .before .before .before in
+    let at-select = at-cut .before .before .before in
+    let at-next = at-select .before .before in
+    let begins = at-next .before .before .before .before .before in
+    rw (at-next .next .ensures) (draw-all (begins .pre) (marks-chosen (begins .pre .marks) (begins .pre .stage .tables .small) (begins .pre .some) (begins .args .state) (at-select .select .result) (at-select .select .ensures ∙ ap (λ (y : ℕ). member (begins .args .n) (members (begins .args .n) (begins .args .words .now)) (y % begins .args .left)) (at-next .next .ensures))) (at-cut .cut .ensures))
 
 pub turn-spec : {M : Type 1} → statement M
 turn-spec =

@@ -39,16 +39,16 @@ slice-read-c c = search needs
 
 cast-c : tie.Need-cast-c
 cast-c c =
-    let s = c .before .before .before in
-    omega (arith, c .slice-known3 .given (s .args .b + getD (s .args .w .now) (s .args .b + 9 * s .args .n + 2 + s .args .i) 0))
+    let begins = c .before .before .before in
+    omega (arith, c .slice-known3 .given (begins .args .b + getD (begins .args .w .now) (begins .args .b + 9 * begins .args .n + 2 + begins .args .i) 0))
 
 returns : tie.Need-returns
 returns c = inl (c .if1 .taken, refl, refl)
 
 link-requires : tie.Need-link-requires
 link-requires c κs =
-    let s = c .before .before .before .before .before in
-    s .pre .link (omega arith)
+    let begins = c .before .before .before .before .before in
+    begins .pre .link (omega arith)
 
 same-length : tie.Need-same-length
 same-length c = search needs

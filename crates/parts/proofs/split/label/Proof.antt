@@ -10,19 +10,21 @@ lowest-requires c κs = search needs
 
 cast-name : tie.Need-cast-name
 cast-name c =
-    let s = c .before .before .before .before in
-    omega (arith, s .pre .queued .small, low-le (c .before .lowest .ensures) (s .pre .queued))
+    let begins = c .before .before .before .before in
+    omega (arith, begins .pre .queued .small, low-le (c .before .lowest .ensures) (begins .pre .queued))
 
 name-requires : tie.Need-name-requires
 name-requires c κs =
-    let s = c .before .before .before .before in
-    record { queued = s .pre .queued; other = λ e. omega (arith, e, s .pre .part, low-le (c .before .lowest .ensures) (s .pre .queued)) }
+    let begins = c .before .before .before .before in
+    record { queued = begins .pre .queued; other = λ e. omega (arith, e, begins .pre .part, low-le (c .before .lowest .ensures) (begins .pre .queued)) }
 
 same-length : tie.Need-same-length
 same-length c = search needs
 
 returns : tie.Need-returns
-returns c = record { vertex = c .before .before .before .before .lowest .result; lowest = c .before .before .before .before .lowest .ensures; named = c .before .before .name .ensures }
+returns c =
+    let at-lowest = c .before .before .before .before in
+    record { vertex = at-lowest .lowest .result; lowest = at-lowest .lowest .ensures; named = c .before .before .name .ensures }
 
 pub label-spec : {M : Type 1} → statement M
 label-spec = tie.close (tie.spec lowest-requires cast-name name-requires same-length returns)

@@ -20,43 +20,44 @@ loop-holds c =
 
 add-v : tie.Need-add-v Inv-loop μ-loop
 add-v c =
-    let s = c .before .before .before in
-    omega (arith, s .pre .fits, s .pre .few, s .pre .small)
+    let begins = c .before .before .before in
+    omega (arith, begins .pre .fits, begins .pre .few, begins .pre .small)
 
 add-v-2 : tie.Need-add-v-2 Inv-loop μ-loop
 add-v-2 c =
-    let s = c .before .before .before in
-    omega (arith, s .pre .fits, s .pre .few, s .pre .small)
+    let begins = c .before .before .before in
+    omega (arith, begins .pre .fits, begins .pre .few, begins .pre .small)
 
 mul-v : tie.Need-mul-v Inv-loop μ-loop
 mul-v c =
-    let s = c .before .before .before in
-    omega (arith, s .pre .fits, s .pre .few, s .pre .small)
+    let begins = c .before .before .before in
+    omega (arith, begins .pre .fits, begins .pre .few, begins .pre .small)
 
 shared-slice-read-v : tie.Need-shared-slice-read-v Inv-loop μ-loop
 shared-slice-read-v c =
-    let s = c .before .before .before .before in
-    omega (arith, s .pre .fits, s .pre .few, s .pre .small)
+    let begins = c .before .before .before .before in
+    omega (arith, begins .pre .fits, begins .pre .few, begins .pre .small)
 
 cast-v : tie.Need-cast-v Inv-loop μ-loop
 cast-v c =
-    let s = c .before .before .before .before in
-    omega (arith, s .pre .fits, s .pre .few, s .pre .small, s .pre .member (c .before .before .loop .i) (omega arith))
+    let begins = c .before .before .before .before in
+    omega (arith, begins .pre .fits, begins .pre .few, begins .pre .small, begins .pre .member (c .before .before .loop .i) (omega arith))
 
 add-lower : tie.Need-add-lower Inv-loop μ-loop
 add-lower c =
-    let s = c .before .before .before .before in
-    omega (arith, s .pre .fits, s .pre .few, s .pre .small, s .pre .member (c .before .before .loop .i) (omega arith))
+    let begins = c .before .before .before .before in
+    omega (arith, begins .pre .fits, begins .pre .few, begins .pre .small, begins .pre .member (c .before .before .loop .i) (omega arith))
 
 mul-lower : tie.Need-mul-lower Inv-loop μ-loop
 mul-lower c =
-    let s = c .before .before .before .before in
-    omega (arith, s .pre .fits, s .pre .few, s .pre .small, s .pre .member (c .before .before .loop .i) (omega arith))
+    let begins = c .before .before .before .before in
+    omega (arith, begins .pre .fits, begins .pre .few, begins .pre .small, begins .pre .member (c .before .before .loop .i) (omega arith))
 
 shared-slice-read-lower : tie.Need-shared-slice-read-lower Inv-loop μ-loop
 shared-slice-read-lower c =
-    let s = c .before .before .before .before .before in
-    omega (arith, s .pre .fits, s .pre .few, s .pre .small, s .pre .member (c .before .before .before .loop .i) (omega arith))
+    let at-loop = c .before .before .before in
+    let begins = at-loop .before .before in
+    omega (arith, begins .pre .fits, begins .pre .few, begins .pre .small, begins .pre .member (at-loop .loop .i) (omega arith))
 
 lower-requires : tie.Need-lower-requires Inv-loop μ-loop
 lower-requires c κs = search needs
@@ -69,14 +70,15 @@ loop-less c = omega arith
 
 loop-again : tie.Need-loop-again Inv-loop μ-loop
 loop-again c =
-    let l = c .before .before .before .before .loop in
+    let at-loop = c .before .before .before .before in
+    let l = at-loop .loop in
     (omega arith, lowest-step (l .inv .1) (c .lower .ensures))
 
 returns : tie.Need-returns Inv-loop μ-loop
 returns c =
-    let s = c .before .before .before in
+    let begins = c .before .before .before in
     let l = c .before .loop in
-    let e : l .i ≡ s .args .k = omega arith in
+    let e : l .i ≡ begins .args .k = omega arith in
     rw e at (l .inv .1)
 
 pub lowest-spec : {M : Type 1} → statement M

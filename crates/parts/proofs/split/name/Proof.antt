@@ -20,41 +20,43 @@ loop-holds c =
 
 add-v : tie.Need-add-v Inv-loop μ-loop
 add-v c =
-    let s = c .before .before .before in
-    omega (arith, s .pre .queued .fits, s .pre .queued .few, s .pre .queued .small, c .before .loop .inv .1 .long)
+    let begins = c .before .before .before in
+    omega (arith, begins .pre .queued .fits, begins .pre .queued .few, begins .pre .queued .small, c .before .loop .inv .1 .long)
 
 add-v-2 : tie.Need-add-v-2 Inv-loop μ-loop
 add-v-2 c =
-    let s = c .before .before .before in
-    omega (arith, s .pre .queued .fits, s .pre .queued .few, s .pre .queued .small, c .before .loop .inv .1 .long)
+    let begins = c .before .before .before in
+    omega (arith, begins .pre .queued .fits, begins .pre .queued .few, begins .pre .queued .small, c .before .loop .inv .1 .long)
 
 mul-v : tie.Need-mul-v Inv-loop μ-loop
 mul-v c =
-    let s = c .before .before .before in
-    omega (arith, s .pre .queued .fits, s .pre .queued .few, s .pre .queued .small, c .before .loop .inv .1 .long)
+    let begins = c .before .before .before in
+    omega (arith, begins .pre .queued .fits, begins .pre .queued .few, begins .pre .queued .small, c .before .loop .inv .1 .long)
 
 slice-read-v : tie.Need-slice-read-v Inv-loop μ-loop
 slice-read-v c =
-    let s = c .before .before .before .before in
-    omega (arith, s .pre .queued .fits, s .pre .queued .few, s .pre .queued .small, c .before .before .loop .inv .1 .long)
+    let begins = c .before .before .before .before in
+    omega (arith, begins .pre .queued .fits, begins .pre .queued .few, begins .pre .queued .small, c .before .before .loop .inv .1 .long)
 
 cast-v : tie.Need-cast-v Inv-loop μ-loop
 cast-v c =
-    let s = c .before .before .before .before in
+    let begins = c .before .before .before .before in
     let l = c .before .before .loop in
-    omega (arith, s .pre .queued .fits, s .pre .queued .few, s .pre .queued .small, l .inv .1 .long, que-lt (s .pre .queued) (s .pre .other) (l .inv .1) (c .before .loop-test .taken))
+    omega (arith, begins .pre .queued .fits, begins .pre .queued .few, begins .pre .queued .small, l .inv .1 .long, que-lt (begins .pre .queued) (begins .pre .other) (l .inv .1) (c .before .loop-test .taken))
 
 add-rename : tie.Need-add-rename Inv-loop μ-loop
 add-rename c =
-    let s = c .before .before .before .before .before in
-    let l = c .before .before .before .loop in
-    omega (arith, s .pre .queued .fits, s .pre .queued .few, s .pre .queued .small, l .inv .1 .long, que-lt (s .pre .queued) (s .pre .other) (l .inv .1) (c .before .before .loop-test .taken))
+    let at-loop = c .before .before .before in
+    let begins = at-loop .before .before in
+    let l = at-loop .loop in
+    omega (arith, begins .pre .queued .fits, begins .pre .queued .few, begins .pre .queued .small, l .inv .1 .long, que-lt (begins .pre .queued) (begins .pre .other) (l .inv .1) (c .before .before .loop-test .taken))
 
 rename-requires : tie.Need-rename-requires Inv-loop μ-loop
 rename-requires c κs =
-    let s = c .before .before .before .before .before in
-    let l = c .before .before .before .loop in
-    omega (arith, s .pre .queued .fits, s .pre .queued .few, s .pre .queued .small, l .inv .1 .long, que-lt (s .pre .queued) (s .pre .other) (l .inv .1) (c .before .before .loop-test .taken))
+    let at-loop = c .before .before .before in
+    let begins = at-loop .before .before in
+    let l = at-loop .loop in
+    omega (arith, begins .pre .queued .fits, begins .pre .queued .few, begins .pre .queued .small, l .inv .1 .long, que-lt (begins .pre .queued) (begins .pre .other) (l .inv .1) (c .before .before .loop-test .taken))
 
 add-i : tie.Need-add-i Inv-loop μ-loop
 add-i c = omega arith
@@ -64,18 +66,20 @@ loop-less c = omega arith
 
 loop-again : tie.Need-loop-again Inv-loop μ-loop
 loop-again c =
-    let s = c .before .before .before .before .before .before .before .before in
-    let l = c .before .before .before .before .before .before .loop in
-    (omega arith, named-step (s .pre .queued) (s .pre .other) (l .inv .1) (c .before .before .before .before .before .loop-test .taken) (c .before .before .rename .ensures))
+    let at-loop-test = c .before .before .before .before .before in
+    let at-loop = at-loop-test .before in
+    let begins = at-loop .before .before in
+    let l = at-loop .loop in
+    (omega arith, named-step (begins .pre .queued) (begins .pre .other) (l .inv .1) (at-loop-test .loop-test .taken) (c .before .before .rename .ensures))
 
 same-length : tie.Need-same-length Inv-loop μ-loop
 same-length c = c .before .loop .inv .1 .long
 
 returns : tie.Need-returns Inv-loop μ-loop
 returns c =
-    let s = c .before .before .before in
+    let begins = c .before .before .before in
     let l = c .before .loop in
-    let e : l .i ≡ s .args .k = omega arith in
+    let e : l .i ≡ begins .args .k = omega arith in
     rw e at (l .inv .1)
 
 pub name-spec : {M : Type 1} → statement M

@@ -17,68 +17,73 @@ loop-holds c = λ a. sweep-none a
 
 mul-y : tie.Need-mul-y Inv-loop μ-loop
 mul-y c =
-    let s = c .before .before .before .before .before in
+    let begins = c .before .before .before .before .before in
     let l = c .before .loop in
-    omega (arith, sweep-stage (s .pre) (l .inv (s .pre)) .long, s .pre .stage .tables .small)
+    omega (arith, sweep-stage (begins .pre) (l .inv (begins .pre)) .long, begins .pre .stage .tables .small)
 
 add-y : tie.Need-add-y Inv-loop μ-loop
 add-y c =
-    let s = c .before .before .before .before .before in
+    let begins = c .before .before .before .before .before in
     let l = c .before .loop in
-    omega (arith, sweep-stage (s .pre) (l .inv (s .pre)) .long, s .pre .stage .tables .small)
+    omega (arith, sweep-stage (begins .pre) (l .inv (begins .pre)) .long, begins .pre .stage .tables .small)
 
 add-y-2 : tie.Need-add-y-2 Inv-loop μ-loop
 add-y-2 c =
-    let s = c .before .before .before .before .before in
+    let begins = c .before .before .before .before .before in
     let l = c .before .loop in
-    omega (arith, sweep-stage (s .pre) (l .inv (s .pre)) .long, s .pre .stage .tables .small)
+    omega (arith, sweep-stage (begins .pre) (l .inv (begins .pre)) .long, begins .pre .stage .tables .small)
 
 mul-y-2 : tie.Need-mul-y-2 Inv-loop μ-loop
 mul-y-2 c =
-    let s = c .before .before .before .before .before in
+    let begins = c .before .before .before .before .before in
     let l = c .before .loop in
-    omega (arith, sweep-stage (s .pre) (l .inv (s .pre)) .long, s .pre .stage .tables .small)
+    omega (arith, sweep-stage (begins .pre) (l .inv (begins .pre)) .long, begins .pre .stage .tables .small)
 
 slice-read-y : tie.Need-slice-read-y Inv-loop μ-loop
 slice-read-y c =
-    let s = c .before .before .before .before .before .before in
+    let begins = c .before .before .before .before .before .before in
     let l = c .before .before .loop in
-    omega (arith, sweep-stage (s .pre) (l .inv (s .pre)) .long, s .pre .stage .tables .small)
+    omega (arith, sweep-stage (begins .pre) (l .inv (begins .pre)) .long, begins .pre .stage .tables .small)
 
 cast-y : tie.Need-cast-y Inv-loop μ-loop
 cast-y c =
-    let s = c .before .before .before .before .before .before in
+    let begins = c .before .before .before .before .before .before in
     let l = c .before .before .loop in
-    omega (arith, s .pre .stage .tables .small, next-is (s .pre) (l .inv (s .pre)) (c .before .loop-test .taken) .most)
+    omega (arith, begins .pre .stage .tables .small, next-is (begins .pre) (l .inv (begins .pre)) (c .before .loop-test .taken) .most)
 
 turn-requires : tie.Need-turn-requires Inv-loop μ-loop
 turn-requires c κs =
-    let s = c .before .before .before .before .before .before .before in
-    let l = c .before .before .before .loop in
-    sweep-turn (s .pre) (l .inv (s .pre)) (c .before .before .loop-test .taken)
+    let at-loop = c .before .before .before in
+    let begins = at-loop .before .before .before .before in
+    let l = at-loop .loop in
+    sweep-turn (begins .pre) (l .inv (begins .pre)) (c .before .before .loop-test .taken)
 
 loop-less : tie.Need-loop-less Inv-loop μ-loop
 loop-less c =
-    let s = c .before .before .before .before .before .before .before .before .before .before in
-    let l = c .before .before .before .before .before .before .loop in
-    omega (arith, next-is (s .pre) (l .inv (s .pre)) (c .before .before .before .before .before .loop-test .taken) .more)
+    let at-loop-test = c .before .before .before .before .before in
+    let at-loop = at-loop-test .before in
+    let begins = at-loop .before .before .before .before in
+    let l = at-loop .loop in
+    omega (arith, next-is (begins .pre) (l .inv (begins .pre)) (at-loop-test .loop-test .taken) .more)
 
 loop-again : tie.Need-loop-again Inv-loop μ-loop
 loop-again c =
-    let l = c .before .before .before .before .before .before .loop in
-    λ a. sweep-step a (l .inv a) (c .before .before .before .before .before .loop-test .taken) (c .before .before .turn .ensures)
+    let at-loop-test = c .before .before .before .before .before in
+    let at-loop = at-loop-test .before in
+    let l = at-loop .loop in
+    λ a. sweep-step a (l .inv a) (at-loop-test .loop-test .taken) (c .before .before .turn .ensures)
 
 same-length : tie.Need-same-length Inv-loop μ-loop
 same-length c =
-    let s = c .before .before .before .before .before in
+    let begins = c .before .before .before .before .before in
     let l = c .before .loop in
-    sweep-long (s .pre) (l .inv (s .pre))
+    sweep-long (begins .pre) (l .inv (begins .pre))
 
 returns : tie.Need-returns Inv-loop μ-loop
 returns c =
-    let s = c .before .before .before .before .before in
+    let begins = c .before .before .before .before .before in
     let l = c .before .loop in
-    sweep-all (s .pre) (l .inv (s .pre)) (c .loop-test .left)
+    sweep-all (begins .pre) (l .inv (begins .pre)) (c .loop-test .left)
 
 pub sweep-spec : {M : Type 1} → statement M
 sweep-spec =

@@ -26,47 +26,49 @@ slice-read-p c = search needs
 
 cast-p : tie.Need-cast-p
 cast-p c =
-    let s = c .before .before .before .before in
-    omega (arith, top-le (s .pre .stage), s .pre .stage .tables .small, s .pre .stage .long, s .pre .stage .placed .low (s .args .i) (s .pre .low))
+    let begins = c .before .before .before .before in
+    omega (arith, top-le (begins .pre .stage), begins .pre .stage .tables .small, begins .pre .stage .long, begins .pre .stage .placed .low (begins .args .i) (begins .pre .low))
 
 add-if1 : tie.Need-add-if1
 add-if1 c =
-    let s = c .before .before .before .before in
-    omega (arith, top-le (s .pre .stage), s .pre .stage .tables .small, s .pre .stage .long, s .pre .stage .placed .low (s .args .i) (s .pre .low))
+    let begins = c .before .before .before .before in
+    omega (arith, top-le (begins .pre .stage), begins .pre .stage .tables .small, begins .pre .stage .long, begins .pre .stage .placed .low (begins .args .i) (begins .pre .low))
 
 mul-if1 : tie.Need-mul-if1
 mul-if1 c =
-    let s = c .before .before .before .before in
-    omega (arith, top-le (s .pre .stage), s .pre .stage .tables .small, s .pre .stage .long, s .pre .stage .placed .low (s .args .i) (s .pre .low))
+    let begins = c .before .before .before .before in
+    omega (arith, top-le (begins .pre .stage), begins .pre .stage .tables .small, begins .pre .stage .long, begins .pre .stage .placed .low (begins .args .i) (begins .pre .low))
 
 slice-read-if1 : tie.Need-slice-read-if1
 slice-read-if1 c =
-    let s = c .before .before .before .before .before in
-    omega (arith, top-le (s .pre .stage), s .pre .stage .tables .small, s .pre .stage .long, s .pre .stage .placed .low (s .args .i) (s .pre .low))
+    let begins = c .before .before .before .before .before in
+    omega (arith, top-le (begins .pre .stage), begins .pre .stage .tables .small, begins .pre .stage .long, begins .pre .stage .placed .low (begins .args .i) (begins .pre .low))
 
 returns : tie.Need-returns
 returns c = inr (c .if1 .taken, refl, refl)
 
 cast-split : tie.Need-cast-split
 cast-split c =
-    let s = c .before .before .before .before .before .before .before in
-    omega (arith, top-le (s .pre .stage), s .pre .stage .tables .small, s .pre .stage .long, s .pre .stage .placed .low (s .args .i) (s .pre .low))
+    let begins = c .before .before .before .before .before .before .before in
+    omega (arith, top-le (begins .pre .stage), begins .pre .stage .tables .small, begins .pre .stage .long, begins .pre .stage .placed .low (begins .args .i) (begins .pre .low))
 
 split-requires : tie.Need-split-requires
 split-requires c κs =
-    let s = c .before .before .before .before .before .before .before in
-    split-ask (s .pre .stage) (s .pre .stage .placed .low (s .args .i) (s .pre .low)) (c .before .if1 .left) (s .pre .part)
+    let begins = c .before .before .before .before .before .before .before in
+    split-ask (begins .pre .stage) (begins .pre .stage .placed .low (begins .args .i) (begins .pre .low)) (c .before .if1 .left) (begins .pre .part)
 
 add-result : tie.Need-add-result
 add-result c =
-    let s = c .before .before .before .before .before .before .before .before .before .before in
-    omega (arith, top-le (s .pre .stage), s .pre .stage .tables .small, s .pre .stage .long, s .pre .stage .placed .low (s .args .i) (s .pre .low))
+    let begins = c .before .before .before .before .before .before .before .before .before .before in
+    omega (arith, top-le (begins .pre .stage), begins .pre .stage .tables .small, begins .pre .stage .long, begins .pre .stage .placed .low (begins .args .i) (begins .pre .low))
 
 same-length : tie.Need-same-length
 same-length c = search needs
 
 returns-2 : tie.Need-returns-2
-returns-2 c = inl (c .before .before .before .before .if1 .left, refl, c .before .before .split .ensures)
+returns-2 c =
+    let at-if1 = c .before .before .before .before in
+    inl (at-if1 .if1 .left, refl, c .before .before .split .ensures)
 
 pub turn-spec : {M : Type 1} → statement M
 turn-spec =
