@@ -6,22 +6,22 @@ use mathlib.Core.Path.{_≡_, refl, sym, ap, _∙_}
 use mathlib.Core.Logic.{_⊎_, inl, inr, ⊎-elim}
 use mathlib.Core.Bool.{true}
 use mathlib.Core.List.{List}
-use lib.Dec.{T, ltb, ltb→lt, lt→ltb, eqb, eqb→eq}
+use lib.Dec.{T, ltb, ltb→lt, lt→ltb}
 use Rattle.graph.specs.Graph.{Graph, IsLabel}
 use Rattle.graph.specs.Parts.{Alone, Closed}
-use Rattle.graph.specs.Numbers.{many, mark}
+use Rattle.graph.specs.Numbers.{many}
 use Rattle.graph.specs.Search.{part, core}
 use Rattle.graph.proofs.Chains.{valid-rev, same-low, same-sym}
 use Rattle.graph.proofs.Counts.{many-mono, many-more}
 use Rattle.graph.proofs.Method.{alone-label}
-use Rattle.graph.proofs.Tests.{and-l, and-r, and-make, eq-T, T-dec}
-use Rattle.graph.proofs.Trim.{trimmed-alone}
 use Rattle.paint.specs.Colours.{col, Kept}
-use Rattle.trim.specs.Trim.{hued, TrimAsk, Trimmed}
+use Rattle.trim.specs.Cursor.{Hued}
+use Rattle.trim.proofs.Core.{gone-alone}
+use Rattle.trim.specs.Trim.{TrimAsk, Trimmed}
 use Rattle.parts.specs.State.{Owned, labelled, rings, ord, Stage}
 use Rattle.parts.specs.Chain.{own, head}
 use Rattle.parts.specs.Share.{Sharing, ShareAsk}
-use Rattle.parts.specs.Divide.{Blank, KindAsk, KindSwept, DivideAsk, Recoloured, Division}
+use Rattle.parts.specs.Divide.{KindAsk, KindSwept, DivideAsk, Recoloured, Division}
 use Rattle.parts.proofs.Splitting.{tables-kept}
 use Rattle.parts.proofs.Rings.{rings-none}
 use Rattle.parts.proofs.Sweeping.{placed-kept, sweeps-kept, sweeps-others, sweeps-ours, sweeps-few, sweeps-many, sweeps-some, sweeps-stage}
@@ -30,27 +30,17 @@ use Rattle.parts.proofs.Handing.{hand-ask, hand-colour, handed}
 
 -- TRIMMING
 module _ {g : Graph} {b q top : ℕ} {w w' : List ℕ} {k : ℕ} (s : Stage g b top w) (part-q : g .n ≤ q) (known : q < top) (z : Trimmed g b q w w' k) where
-  closed : Closed g (part (hued (g .n) b q w))
-  closed u v e t =
-      let lu : u < g .n = ltb→lt u (g .n) (and-l (ltb u (g .n)) (eqb (col b w u) q) t) in
-      let cu : col b w u ≡ q = eqb→eq (col b w u) q (and-r (ltb u (g .n)) (eqb (col b w u) q) t) in
-      let lv : v < g .n = same-low (s .tables .valid) e lu in
-      and-make (ltb v (g .n)) (eqb (col b w v) q) (lt→ltb v (g .n) lv) (eq-T (col b w v) q (sym (s .owned .whole u v lu e) ∙ cu))
+  closed : Closed g (Hued (g .n) b q w)
+  closed u v e (l, c) = (same-low (s .tables .valid) e l, sym (s .owned .whole u v l e) ∙ c)
 
   -- what goes is a component alone
   pub trim-each : (v : ℕ) → v < g .n → (col b w' v ≡ col b w v) ⊎ ((col b w v ≡ q) × (col b w' v ≡ v) × Alone g v)
-  trim-each v l = elim (ℕ-discrete (col b w v) q) as (λ _. (col b w' v ≡ col b w v) ⊎ ((col b w v ≡ q) × (col b w' v ≡ v) × Alone g v)) [
-    | no o ↦ inl (z .else v l o)
-    | yes e ↦ elim (T-dec (mark (core g (hued (g .n) b q w)) v)) as (λ _. (col b w' v ≡ col b w v) ⊎ ((col b w v ≡ q) × (col b w' v ≡ v) × Alone g v)) [
-      | yes t ↦ inl (z .stays v l t ∙ sym e)
-      | no t ↦ inr (
-        e,
-        z .goes v l e t,
-        trimmed-alone g (hued (g .n) b q w) closed (λ u y. ltb→lt u (g .n) (and-l (ltb u (g .n)) (eqb (col b w u) q) y)) (g .n) v
-            (and-make (ltb v (g .n)) (eqb (col b w v) q) (lt→ltb v (g .n) l) (eq-T (col b w v) q e)) t,
-      )
-    ]
-  ]
+  trim-each v l = go (ℕ-discrete (col b w v) q) (ℕ-discrete (col b w' v) q)
+    where
+      go : Dec (col b w v ≡ q) → Dec (col b w' v ≡ q) → (col b w' v ≡ col b w v) ⊎ ((col b w v ≡ q) × (col b w' v ≡ v) × Alone g v)
+      go (no o) d = inl (z .else v l o)
+      go (yes e) (yes y) = inl (y ∙ sym e)
+      go (yes e) (no o) = inr (e, z .goes v l e (λ t. o (z .stays v l t)), gone-alone g b q w w' k part-q closed z v l e o)
 
   pub trim-owned : Owned g (col b w') top
   trim-owned = record {
@@ -129,7 +119,7 @@ module _ {g : Graph} {b h top : ℕ} {w ws : List ℕ} (a : DivideAsk g b h top 
     chain = record {
       placed = record { low = a .stage .placed .low; all = a .stage .placed .all };
       head = record { most = omega (arith, a .first .low); here = λ t. refl; none = a .first .none };
-      next = λ i l e. let f = a .chain i l e in record { more = f .more; most = f .most; same = f .same; none = f .none };
+      next = a .chain;
     };
   }
 

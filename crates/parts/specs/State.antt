@@ -3,13 +3,14 @@ use Prim.Native.Nat.{ℕ, _+_, _*_, _≤_, _<_}
 use mathlib.Core.Path.{_≡_}
 use mathlib.Core.Bool.{Bool, _&&_, not}
 use mathlib.Core.List.{List}
-use lib.ListN.{length, getD}
+use lib.ListN.{length}
 use lib.Dec.{ltb, eqb}
 use Rattle.graph.specs.Graph.{Graph, Valid, Same, IsLabel, edges}
 use Rattle.graph.specs.Limits.{mostVertices, mostEdges}
 use Rattle.graph.specs.Numbers.{some-below, many}
 use Rattle.index.specs.Index.{Indexed}
 use Rattle.paint.specs.Colours.{col}
+pub use Rattle.trim.specs.Chain.{ord}
 
 -- The two indexes stand in the front of w, below b.
 pub record Tables (g : Graph) (b : ℕ) (w : List ℕ) : Type 0 where
@@ -37,10 +38,6 @@ ring n own l = eqb (own l) l && some-below n (λ v. not (eqb v l) && eqb (own v)
 -- how many components of two or more vertices have their label
 abbrev pub rings : Graph → ℕ → List ℕ → ℕ
 rings g b w = many (ring (g .n) (col b w)) (g .n)
-
--- the vertex at place i of the order
-abbrev pub ord : ℕ → ℕ → List ℕ → ℕ → ℕ
-ord n b w i = getD w (b + 9 * n + 2 + i) 0
 
 -- The order has vertices only, and each of them once.
 pub record Placed (n b : ℕ) (w : List ℕ) : Type 0 where
