@@ -5,3 +5,6 @@ pub mod Steps
 pub mod Goes
 pub mod Rounds
 pub mod Core
+pub mod Between
+pub mod Whole
+pub mod Unique

@@ -9,16 +9,25 @@ aim-requires : tie.Need-aim-requires
 aim-requires c κs = let s = c .before .before .before .before in trim-aim (graph (s .args .n) (s .args .sources .now) (s .args .targets .now)) (s .args .b) (s .args .h) (s .args .q) (s .args .w .now) (s .pre)
 
 pass-requires : tie.Need-pass-requires
-pass-requires c κs = let s = c .before .before .before .before .before .before .before .before in pass-ask (graph (s .args .n) (s .args .sources .now) (s .args .targets .now)) (s .args .b) (s .args .h) (s .args .q) (s .args .w .now) (s .pre) _ (c .before .before .before .aim .ensures)
+pass-requires c κs = let at-aim = c .before .before .before in
+    let s = at-aim .before .before .before .before .before in
+    pass-ask (graph (s .args .n) (s .args .sources .now) (s .args .targets .now)) (s .args .b) (s .args .h) (s .args .q) (s .args .w .now) (s .pre) _ (at-aim .aim .ensures)
 
 drain-requires : tie.Need-drain-requires
-drain-requires c κs = let s = c .before .before .before .before .before .before .before .before .before .before .before .before in drain-ask (graph (s .args .n) (s .args .sources .now) (s .args .targets .now)) (s .args .b) (s .args .h) (s .args .q) (s .args .w .now) (s .pre) _ (c .before .before .before .before .before .before .before .aim .ensures) _ _ (c .before .before .before .pass .ensures)
+drain-requires c κs = let at-pass = c .before .before .before in
+    let at-aim = at-pass .before .before .before .before in
+    let s = at-aim .before .before .before .before .before in
+    drain-ask (graph (s .args .n) (s .args .sources .now) (s .args .targets .now)) (s .args .b) (s .args .h) (s .args .q) (s .args .w .now) (s .pre) _ (at-aim .aim .ensures) _ _ (at-pass .pass .ensures)
 
 same-length : tie.Need-same-length
 same-length c = search needs
 
 returns : tie.Need-returns
-returns c = let s = c .before .before .before .before .before .before .before .before .before .before .before .before .before .before .before in trim-all (graph (s .args .n) (s .args .sources .now) (s .args .targets .now)) (s .args .b) (s .args .h) (s .args .q) (s .args .w .now) (s .pre) _ (c .before .before .before .before .before .before .before .before .before .before .aim .ensures) _ _ (c .before .before .before .before .before .before .pass .ensures) _ _ (c .before .before .drain .ensures)
+returns c = let at-drain = c .before .before in
+    let at-pass = at-drain .before .before .before .before in
+    let at-aim = at-pass .before .before .before .before in
+    let s = at-aim .before .before .before .before .before in
+    trim-all (graph (s .args .n) (s .args .sources .now) (s .args .targets .now)) (s .args .b) (s .args .h) (s .args .q) (s .args .w .now) (s .pre) _ (at-aim .aim .ensures) _ _ (at-pass .pass .ensures) _ _ (at-drain .drain .ensures)
 
 pub prune-spec : {M : Type 1} → statement M
 prune-spec = tie.close (tie.spec aim-requires pass-requires drain-requires same-length returns)

@@ -1,0 +1,236 @@
+-- From an accepted call through the steps to the promise.
+use Prim.Native.Nat.{ℕ, zero, suc, _+_, _-_, _*_, _≤_, _<_}
+use native.Mathlib.Omega.{arith}
+use native.Mathlib.Nat.{suc-ne-zero}
+use native.Mathlib.Decide.{ℕ-discrete}
+use mathlib.Core.Path.{_≡_, refl, sym, ap, _∙_}
+use mathlib.Core.Bool.{Bool, true, false, cond, _&&_}
+use mathlib.Core.List.{List}
+use lib.ListN.{length}
+use lib.Dec.{T, eqb, ltb, eqb→eq, ltb→lt, lt→ltb}
+use borrow.Author.Tests.{ltb-false, eqb-true, not-false}
+use Rattle.graph.specs.Limits.{wordsOf, numbersNeeded, wordsNeeded}
+use Rattle.graph.specs.Graph.{Graph, graph}
+use Rattle.graph.specs.Numbers.{table, tally, many, mark}
+use Rattle.graph.specs.Search.{part, trim, trimmed, core}
+use Rattle.graph.specs.Sets.{bit, members}
+use Rattle.graph.specs.Memory.{Zeroed}
+use Rattle.graph.proofs.Tests.{table-same, T-dec, and-l, and-r, and-make, eq-T}
+use Rattle.graph.proofs.Counts.{many-mono}
+use Rattle.graph.proofs.Chains.{valid-rev}
+use Rattle.graph.proofs.Refusals.{or-none, or-left-none, given-none, Passed, table-passed, passed-valid}
+use Rattle.graph.proofs.Trim.{core-is}
+use Rattle.index.specs.Build.{BothAsk, Both}
+use Rattle.index.proofs.Moved.{indexed-kept}
+use Rattle.sets.proofs.Store.{bit-lt}
+use Rattle.sets.proofs.Sizes.{size-below, size-many}
+use Rattle.paint.specs.Colours.{col}
+use Rattle.trim.specs.Chain.{own, nxt, Follows}
+use Rattle.trim.specs.Trim.{hued, revAt, TrimAsk, Trimmed}
+use Rattle.trim.specs.Stages.{ColourAsk, Coloured, StringAsk, From, Strung, CollectAsk, Collected, RunAsk, Ran}
+use Rattle.trim.specs.Promise.{Call, ill-sized, trimRefusal, leftOf, Finished}
+use Rattle.trim.proofs.Core.{hued-is, is-hued, core-of}
+use Rattle.trim.proofs.Between.{empty-bit}
+
+-- tests that hold together are equal
+same-test : (a b : Bool) → (T a → T b) → (T b → T a) → a ≡ b
+same-test true true f g = refl
+same-test true false f g = absurd (f tt)
+same-test false true f g = absurd (g tt)
+same-test false false f g = refl
+
+-- the core depends only on which vertices below n are in the part
+pub core-same : (g : Graph) (p p' : ℕ → Bool) → ((v : ℕ) → v < g .n → p v ≡ p' v) → core g p ≡ core g p'
+unfolding trimmed
+core-same g p p' f = rounds (g .n)
+  where
+    rounds : (k : ℕ) → trimmed g p k ≡ trimmed g p' k
+    rounds zero = table-same (g .n) p p' f
+    rounds (suc k) = ap (trim g) (rounds k)
+
+-- THE STEPS
+module _ (n : ℕ) (sources targets part w₀ r₀ : List ℕ) (a : RunAsk (graph n sources targets) part w₀ r₀) where
+  abbrev g : Graph
+  g = graph n sources targets
+
+  abbrev b : ℕ
+  b = 2 * (n + 1 + length sources)
+
+  pub both-ask : BothAsk sources targets n w₀
+  both-ask = record {
+    forward = record { below = a .valid .from-low; small = omega (arith, a .small); few = omega (arith, a .few) };
+    reverse = record { below = λ e l. a .valid .to-low e (omega (arith, a .valid .same)); small = omega (arith, a .small); few = omega (arith, a .few, a .valid .same) };
+    even = a .valid .same;
+    room = omega (arith, a .room);
+  }
+
+  module _ (w₁ : List ℕ) (o : Both sources targets n w₀ w₁) where
+    pub colour-ask : ColourAsk n b part w₁
+    colour-ask = record { small = a .small; room = omega (arith, a .room, o .long); words = a .part-long }
+
+    module _ (w₂ : List ℕ) (c : Coloured n n b part w₁ w₂) where
+      pub string-ask : StringAsk n b w₂
+      string-ask = record { small = a .small; long = omega (arith, a .room, o .long, c .frame .long) }
+
+      module _ (w₃ : List ℕ) (h : ℕ) (s : Strung n b n 0 h w₂ w₃) where
+        same-own : (i : ℕ) → i < n → own n b w₃ i ≡ col b w₂ i
+        same-own i l = ap (col b w₃) (s .order i (omega arith) l) ∙ s .low (b + i) (omega arith)
+
+        follows : (i : ℕ) → i < n → own n b w₃ i ≡ n → Follows n (own n b w₃) i (nxt n b w₃ i)
+        follows i l e =
+            let f = s .next i (omega arith) l in
+            record {
+              more = omega (arith, f .least);
+              most = f .most;
+              same = λ t. same-own (nxt n b w₃ i) t ∙ f .here t ∙ sym e;
+              none = λ u x y t. f .none u (omega arith) y (sym (same-own u (omega (arith, f .most))) ∙ t ∙ e);
+            }
+
+        pub trim-ask : TrimAsk g b h n w₃
+        trim-ask = record {
+          fwd = record {
+            valid = a .valid;
+            counts = λ e. refl;
+            few = a .few;
+            below = omega arith;
+            index = indexed-kept sources n 0 w₁ w₃ (a .valid .from-low) (λ j _ l. s .low j (omega arith) ∙ c .frame .low j (omega arith)) (o .forward);
+          };
+          bwd = record {
+            valid = valid-rev (a .valid);
+            counts = λ e. refl;
+            few = omega (arith, a .few, a .valid .same);
+            below = omega (arith, a .valid .same);
+            index = indexed-kept targets n (revAt g) w₁ w₃ (valid-rev (a .valid) .from-low)
+                (λ j _ l. s .low j (omega (arith, a .valid .same)) ∙ c .frame .low j (omega (arith, a .valid .same))) (o .reverse);
+          };
+          small = a .small;
+          long = omega (arith, string-ask .long, s .long);
+          part = omega arith;
+          chain = record {
+            placed = record { low = λ i l. rw (s .order i (omega arith) l) l; all = λ v l. (v, l, s .order v (omega arith) l) };
+            head = record {
+              most = s .first .most;
+              here = λ l. same-own h l ∙ s .first .here l;
+              none = λ u l e. s .first .none u (omega arith) l (sym (same-own u (omega (arith, s .first .most))) ∙ e);
+            };
+            next = follows;
+          };
+        }
+
+        -- the colour n is the part
+        coloured : (v : ℕ) → v < n → hued n b n w₃ v ≡ members n part v
+        coloured v l =
+            let e : col b w₃ v ≡ n + 1 - bit part v = s .low (b + v) (omega arith) ∙ c .colours v l in
+            ap (λ (t : Bool). ltb v n && t) (same-test (eqb (col b w₃ v) n) (eqb (bit part v) 1)
+            (λ t. eq-T (bit part v) 1 (let d = eqb→eq (col b w₃ v) n t in omega (arith, bit-lt part v)))
+            (λ t. eq-T (col b w₃ v) n (let d = eqb→eq (bit part v) 1 t in omega arith)))
+
+        left-same : core g (hued n b n w₃) ≡ core g (members n part)
+        left-same = core-same g (hued n b n w₃) (members n part) coloured
+
+        module _ (w₄ : List ℕ) (k : ℕ) (t : Trimmed g b n w₃ w₄ k) (r₁ : List ℕ) (z : Zeroed (length part) r₀ r₁) where
+          pub collect-ask : CollectAsk n b w₄ r₁
+          collect-ask = record {
+            small = a .small;
+            room = omega (arith, trim-ask .long, t .aside .long);
+            words = z .long ∙ a .left-long;
+            empty = empty-bit (length part) r₀ r₁ (omega (arith, a .part-long, a .left-long)) z;
+          }
+
+          kept : (v : ℕ) → v < n → col b w₄ v ≡ n → T (mark (core g (hued n b n w₃)) v)
+          kept v l e = elim (T-dec (mark (core g (hued n b n w₃)) v)) as (λ _. T (mark (core g (hued n b n w₃)) v)) [
+            | yes y ↦ y
+            | no y ↦ absurd (elim (ℕ-discrete (col b w₃ v) n) as (λ _. ⊥) [
+              | yes q ↦ omega (arith, t .goes v l q y)
+              | no q ↦ q (sym (t .else v l q) ∙ e)
+            ])
+          ]
+
+          left : (v : ℕ) → hued n b n w₄ v ≡ mark (core g (hued n b n w₃)) v
+          left v = same-test (hued n b n w₄ v) (mark (core g (hued n b n w₃)) v)
+              (λ y. let (l, e) = hued-is n b n w₄ v y in kept v l e)
+              (λ y. let (l, e) = hued-is n b n w₃ v (core-of g b n w₃ .inside v y) in is-hued n b n w₄ v (l, t .stays v l y))
+
+          pub ran : (r₂ : List ℕ) → Collected n b n w₄ r₁ r₂ → Ran g part w₀ r₀ w₄ r₂
+          ran r₂ d = record {
+            long = d .long ∙ z .long;
+            set = λ v. d .set v ∙ ap (λ (t : Bool). cond t 1 0) (left v ∙ ap (λ (l : List Bool). mark l v) left-same);
+            numbers = t .aside .long ∙ s .long ∙ c .frame .long ∙ o .long;
+            rest = λ j l. t .aside .high j (omega arith) ∙ s .high j (omega arith) ∙ c .frame .high j (omega arith) ∙ o .rest j (omega arith);
+          }
+
+-- THE CALL
+sized : (n : ℕ) (ws : List ℕ) → ill-sized n ws ≡ false → length ws ≡ wordsOf n
+sized n ws e = eqb-true (length ws) (wordsOf n) (not-false (eqb (length ws) (wordsOf n)) e)
+
+-- what a call has that is not refused
+pub record Accepted (c : Call) : Type 0 where
+  pub table : Passed (c .n) (c .sources) (c .targets)
+  pub part : length (c .part) ≡ wordsOf (c .n)
+  pub left : length (c .left) ≡ wordsOf (c .n)
+  pub numbers : numbersNeeded (c .n) (length (c .sources)) ≤ length (c .numbers)
+  pub words : wordsNeeded (c .n) ≤ length (c .words)
+
+module _ (c : Call) (e : trimRefusal c ≡ 0) where
+  pub accepted : Accepted c
+  unfolding trimRefusal
+  accepted =
+      let (e1, r1) = or-none _ _ e in
+      let (e2, e3) = or-none _ _ r1 in
+      let (p, l) = or-left-none _ _ (given-none 5 _ (suc-ne-zero 4) e2) in
+      let (m, w) = or-left-none _ _ (given-none 6 _ (suc-ne-zero 5) e3) in
+      record {
+        table = table-passed (c .n) (c .sources) (c .targets) e1;
+        part = sized (c .n) (c .part) p;
+        left = sized (c .n) (c .left) l;
+        numbers = ltb-false _ _ m;
+        words = ltb-false _ _ w;
+      }
+
+  pub run-ask : RunAsk (graph (c .n) (c .sources) (c .targets)) (c .part) (c .numbers) (c .left)
+  run-ask = let a = accepted in record {
+    valid = passed-valid (c .n) (c .sources) (c .targets) (a .table);
+    small = a .table .small;
+    few = a .table .few;
+    room = a .numbers;
+    part-long = a .part;
+    left-long = a .left;
+  }
+
+  -- the part was trimmed, what is left measured, and the working memory zeroed
+  module _ (w₁ r w ws : List ℕ) (k : ℕ) (z : Ran (graph (c .n) (c .sources) (c .targets)) (c .part) (c .numbers) (c .left) w₁ r) where
+    low : (v : ℕ) → T (mark (leftOf c) v) → v < c .n
+    low v t = lower (core-is (graph (c .n) (c .sources) (c .targets)) (members (c .n) (c .part)) (λ u y. lower y) .inside v t)
+      where
+        lower : {v : ℕ} → T (members (c .n) (c .part) v) → v < c .n
+        lower {v} y = ltb→lt v (c .n) (and-l (ltb v (c .n)) _ y)
+
+    above : (v : ℕ) → c .n ≤ v → bit r v ≡ 0
+    above v l = z .set v ∙ ap (λ (t : Bool). cond t 1 0) (same-test (mark (leftOf c) v) false (λ t. absurd (omega (arith, low v t))) (λ t. absurd t))
+
+    is-member : (v : ℕ) → v < c .n → T (members (c .n) r v) → T (mark (leftOf c) v)
+    is-member v l t = go (mark (leftOf c) v) (sym (z .set v) ∙ eqb→eq (bit r v) 1 (and-r (ltb v (c .n)) _ t))
+      where
+        go : (m : Bool) → _≡_ {A = ℕ} (cond m 1 0) 1 → T m
+        go true q = tt
+        go false q = absurd (omega arith)
+
+    member-is : (v : ℕ) → v < c .n → T (mark (leftOf c) v) → T (members (c .n) r v)
+    member-is v l t = and-make (ltb v (c .n)) _ (lt→ltb v (c .n) l) (eq-T (bit r v) 1 (z .set v ∙ go (mark (leftOf c) v) t))
+      where
+        go : (m : Bool) → T m → _≡_ {A = ℕ} (cond m 1 0) 1
+        go true q = refl
+
+    size : k ≡ tally (bit r) (length r * 64) → k ≡ many (mark (leftOf c)) (c .n)
+    size q = q ∙ size-below r (c .n) (length r * 64) (omega (arith, accepted .left, z .long)) above ∙ size-many r (c .n)
+        ∙ omega (arith, many-mono (members (c .n) r) (mark (leftOf c)) (c .n) is-member, many-mono (mark (leftOf c)) (members (c .n) r) (c .n) member-is)
+
+    pub finished : k ≡ tally (bit r) (length r * 64) → Zeroed (numbersNeeded (c .n) (length (c .sources))) w₁ w → Zeroed (wordsNeeded (c .n)) (c .words) ws → Finished c r w ws k
+    finished q x y = record {
+      long = z .long;
+      set = z .set;
+      above = above;
+      vertices = size q;
+      numbers = record { long = x .long ∙ z .numbers; front = x .front; rest = λ j l. x .rest j l ∙ z .rest j l };
+      words = y;
+    }
