@@ -3,3 +3,4 @@ pub mod Counts
 pub mod Place
 pub mod Moved
 pub mod Degree
+pub mod Unique
