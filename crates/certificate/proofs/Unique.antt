@@ -1,0 +1,53 @@
+-- The writer's promise fixes the number and all that was lent; the checker accepts what is written, and only right labels are written for.
+use Prim.Native.Nat.{ℕ}
+use native.Mathlib.Decide.{ℕ-discrete}
+use mathlib.Core.Path.{_≡_, refl, sym, ap, _∙_}
+use mathlib.Core.Logic.{by-cases}
+use mathlib.Core.List.{List}
+use Rattle.graph.specs.Limits.{wrongLabels}
+use Rattle.graph.specs.Search.{labels}
+use Rattle.graph.specs.Checker.{Columns, accepted, verdict}
+use Rattle.graph.specs.Certificate.{certificate}
+use Rattle.graph.proofs.Memory.{zeroed-one}
+use Rattle.graph.proofs.Certificate.{right-unique, right-accepted}
+use Rattle.graph.proofs.Verdict.{accepted-verdict}
+use Rattle.certificate.specs.Promise.{Lent, lent, Call, table, columns, Tidied, Promise}
+use Rattle.certificate.proofs.Writing.{ready-of, right-of}
+
+-- equal columns and equal working memory are all that was lent
+lent-same : {rank rank′ inEdge inEdge′ inDist inDist′ outEdge outEdge′ outDist outDist′ numbers numbers′ words words′ : List ℕ}
+    → rank ≡ rank′ → inEdge ≡ inEdge′ → inDist ≡ inDist′ → outEdge ≡ outEdge′ → outDist ≡ outDist′ → numbers ≡ numbers′ → words ≡ words′
+    → lent rank inEdge inDist outEdge outDist numbers words ≡ lent rank′ inEdge′ inDist′ outEdge′ outDist′ numbers′ words′
+lent-same p q r s t u v = rw (p, q, r, s, t, u, v)
+
+module _ (c : Call) (a b : Lent) where
+  one-lent : columns (c .label) a ≡ columns (c .label) b → Tidied c a → Tidied c b → a ≡ b
+  one-lent e x y =
+      lent-same (ap (λ (k : Columns). k .rank) e) (ap (λ (k : Columns). k .inEdge) e) (ap (λ (k : Columns). k .inDist) e) (ap (λ (k : Columns). k .outEdge) e) (ap (λ (k : Columns). k .outDist) e)
+      (zeroed-one (x .numbers-zero) (y .numbers-zero)) (zeroed-one (x .words-zero) (y .words-zero))
+
+  -- TWO OUTCOMES THAT MEET THE PROMISE ARE EQUAL
+  pub write-one : (k j : ℕ) → Promise c k a → Promise c j b → (k ≡ j) × (a ≡ b)
+  write-one k j p q = (same, by-cases (ℕ-discrete k 0) done (λ o. by-cases (ℕ-discrete k wrongLabels) wrong (λ w. p .refused o w ∙ sym (q .refused (λ z. o (same ∙ z)) (λ z. w (same ∙ z))))))
+    where
+      same : k ≡ j
+      same = p .number ∙ sym (q .number)
+
+      done : k ≡ 0 → a ≡ b
+      done z = let (e, x) = p .written z in let (f, y) = q .written (sym same ∙ z) in one-lent (e ∙ sym f) x y
+
+      wrong : k ≡ wrongLabels → a ≡ b
+      wrong z = let (e, x) = p .wrong z in let (f, y) = q .wrong (sym same ∙ z) in one-lent (e ∙ sym f) x y
+
+module _ (c : Call) (after : Lent) (p : Promise c 0 after) where
+  -- THE LABELS THAT ARE WRITTEN FOR ARE THE LABELS
+  pub written-right : c .label ≡ labels (table c)
+  written-right =
+      let r = ready-of c (sym (p .number)) in
+      right-unique (r .0) (c .label) (r .1) (right-of c (sym (p .number)))
+
+  -- THE CHECKER ACCEPTS WHAT IS WRITTEN
+  pub written-accepted : verdict (table c) (columns (c .label) after) ≡ accepted
+  written-accepted =
+      let r = ready-of c (sym (p .number)) in
+      rw (p .written refl .0) (accepted-verdict (table c) (certificate (table c) (c .label)) (right-accepted (r .0) (c .label) (right-of c (sym (p .number)))))

@@ -1,0 +1,297 @@
+-- The stages together: the certificate stands in the regions, or the labels are not right.
+use Prim.Native.Nat.{ℕ, _+_, _*_, _≤_, _<_}
+use native.Mathlib.Omega.{arith}
+use mathlib.Core.Path.{_≡_, refl, sym, _∙_}
+use mathlib.Core.Logic.{_⊎_, inl, inr}
+use mathlib.Core.Bool.{Bool, true, false, cond, not}
+use mathlib.Core.List.{List}
+use lib.ListN.{length, getD}
+use lib.Dec.{T, eqb}
+use Rattle.graph.specs.Graph.{Graph, graph, Valid, Chain, rev, edges}
+use Rattle.graph.specs.Limits.{mostEdges}
+use Rattle.graph.specs.Checker.{at, noEdge, entry}
+use Rattle.graph.specs.Numbers.{least}
+use Rattle.graph.specs.Certificate.{Right, certificate, distOf, rankOf, distances, entries, ranks}
+use Rattle.graph.proofs.Tests.{getD-table}
+use Rattle.graph.proofs.Chains.{valid-rev, label-rev}
+use Rattle.index.specs.Build.{BothAsk, Both}
+use Rattle.index.proofs.Moved.{indexed-kept}
+use Rattle.certificate.specs.Classes.{class, OwnLabels, Distances}
+use Rattle.certificate.specs.Memory.{region, inDistances, outDistances, inEdges, outEdges, ranksAt, countsAt}
+use Rattle.certificate.specs.Ranks.{Peeled, Stuck}
+use Rattle.certificate.specs.Peel.{RanksAsk, Ranked}
+use Rattle.certificate.specs.Offer.{EntriesAsk, Entered}
+use Rattle.certificate.specs.Search.{Owned, DistancesAsk, Measured}
+use Rattle.certificate.specs.Work.{base, WorkAsk, FindAsk, Near, Found, CompleteAsk, Completed, Made, Worked}
+use Rattle.certificate.proofs.Inside.{right-own, reached-inside, near-is}
+use Rattle.certificate.proofs.Right.{labels-right, rank-right}
+use Rattle.certificate.proofs.Fitting.{edge-least}
+use Rattle.certificate.proofs.Waiting.{gone-ranks, none-stays}
+use Rattle.certificate.proofs.Classing.{clash, not-true-false, not-false-true}
+
+-- a vertex that is not reached inside its class refutes the labels
+unreached : {g : Graph} → Valid g → (lab : List ℕ) → (v : ℕ) × (v < g .n) × ((h : ℕ) → Chain g (class lab (at lab v)) h (at lab v) v → ⊥) → Right g lab → ⊥
+unreached ok lab (v, l, o) right = let (h, c) = reached-inside ok lab right v l in o h c
+
+module _ {n : ℕ} {sources targets lab : List ℕ} {b : ℕ} {w : List ℕ} (a : FindAsk (graph n sources targets) lab b w) where
+  abbrev g : Graph
+  g = graph n sources targets
+
+  pub both-ask : BothAsk sources targets n w
+  both-ask =
+      record {
+        forward = record { below = a .ask .valid .from-low; small = omega (arith, a .ask .small); few = omega (arith, a .ask .few) };
+        reverse = record { below = λ e m. a .ask .valid .to-low e (omega (arith, a .ask .valid .same)); small = omega (arith, a .ask .small); few = omega (arith, a .ask .few, a .ask .valid .same) };
+        even = a .ask .valid .same;
+        room = omega (arith, a .ask .room);
+      }
+
+  module _ (w₁ : List ℕ) (x : Both sources targets n w w₁) where
+    pub there-ask : DistancesAsk g lab 0 b w₁
+    there-ask =
+        record {
+          laid = record { valid = a .ask .valid; counts = a .ask .counted; few = a .ask .few; below = omega (arith, a .place); index = x .forward };
+          small = a .ask .small;
+          size = a .ask .size;
+          own = a .own;
+          fits = omega (arith, a .ask .room, a .place, x .long);
+        }
+
+    module _ (w₂ : List ℕ) (r : Bool) (y : Measured g lab b w₁ w₂ r) where
+      pub find-stop : not r ≡ true → Found g lab b w w₂ false
+      find-stop q =
+          record {
+            beyond = record { long = y .kept .long ∙ x .long; rest = λ j l. y .kept .high j (omega arith) ∙ x .rest j (omega (arith, a .place)) };
+            either = inr (refl, go (y .either));
+          }
+        where
+          go : ((r ≡ true) × Distances g lab (region b w₂) × ((v : ℕ) → v < n → region b w₂ v < n))
+              ⊎ ((r ≡ false) × ((v : ℕ) × (v < n) × ((h : ℕ) → Chain g (class lab (at lab v)) h (at lab v) v → ⊥))) → Right g lab → ⊥
+          go (inl (p, _, _)) right = clash r p (not-true-false r q)
+          go (inr (_, u)) right = unreached (a .ask .valid) lab u right
+
+      module _ (q : not r ≡ false) where
+        there-found : Distances g lab (region b w₂) × ((v : ℕ) → v < n → region b w₂ v < n)
+        there-found = go (y .either)
+          where
+            go : ((r ≡ true) × Distances g lab (region b w₂) × ((v : ℕ) → v < n → region b w₂ v < n))
+                ⊎ ((r ≡ false) × ((v : ℕ) × (v < n) × ((h : ℕ) → Chain g (class lab (at lab v)) h (at lab v) v → ⊥))) → Distances g lab (region b w₂) × ((v : ℕ) → v < n → region b w₂ v < n)
+            go (inl (_, p, l)) = (p, l)
+            go (inr (p, _)) = absurd (clash r (not-false-true r q) p)
+
+        pub back-ask : DistancesAsk (graph n targets sources) lab (n + 1 + length sources) (b + n) w₂
+        back-ask =
+            record {
+              laid =
+                  record {
+                    valid = valid-rev (a .ask .valid);
+                    counts = a .ask .counted;
+                    few = omega (arith, a .ask .few, a .ask .valid .same);
+                    below = omega (arith, a .place, a .ask .valid .same);
+                    index = indexed-kept targets n (n + 1 + length sources) w₁ w₂ (λ e m. a .ask .valid .to-low e (omega (arith, a .ask .valid .same)))
+                        (λ j l m. y .kept .low j (omega (arith, a .place, a .ask .valid .same))) (x .reverse);
+                  };
+              small = a .ask .small;
+              size = a .ask .size;
+              own = a .own;
+              fits = omega (arith, a .ask .room, a .place, x .long, y .kept .long);
+            }
+
+        pub find-end : (w₃ : List ℕ) (s : Bool) → Measured (graph n targets sources) lab (b + n) w₂ w₃ s → Found g lab b w w₃ s
+        find-end w₃ s z =
+            record {
+              beyond =
+                  record {
+                    long = z .kept .long ∙ y .kept .long ∙ x .long;
+                    rest = λ j l. z .kept .high j (omega arith) ∙ y .kept .high j (omega arith) ∙ x .rest j (omega (arith, a .place));
+                  };
+              either = go (z .either);
+            }
+          where
+            kept-there : (v : ℕ) → v < n → region b w₃ v ≡ region b w₂ v
+            kept-there v l = z .kept .low (b + v) (omega arith)
+
+            go : ((s ≡ true) × Distances (rev g) lab (region (b + n) w₃) × ((v : ℕ) → v < n → region (b + n) w₃ v < n))
+                ⊎ ((s ≡ false) × ((v : ℕ) × (v < n) × ((h : ℕ) → Chain (rev g) (class lab (at lab v)) h (at lab v) v → ⊥)))
+                → ((s ≡ true) × Near g lab b w₃) ⊎ ((s ≡ false) × (Right g lab → ⊥))
+            go (inr (p, u)) = inr (p, λ right. unreached (valid-rev (a .ask .valid)) lab u (λ v l. label-rev (a .ask .valid) (right v l)))
+            go (inl (p, back, back-low)) =
+                inl (
+                  p,
+                  record {
+                    index = indexed-kept sources n 0 w₁ w₃ (a .ask .valid .from-low) (λ j l m. z .kept .low j (omega (arith, a .place)) ∙ y .kept .low j (omega (arith, a .place))) (x .forward);
+                    there = λ v l. rw (kept-there v l) (there-found .0 v l);
+                    there-low = λ v l. rw (kept-there v l) (there-found .1 v l);
+                    back = back;
+                    back-low = back-low;
+                  },
+                )
+
+module _ {n : ℕ} {sources targets lab : List ℕ} {b : ℕ} {w : List ℕ} (a : CompleteAsk (graph n sources targets) lab b w)
+    (w₁ : List ℕ) (x : Entered (graph n sources targets) lab b (b + 3 * n) w w₁) where
+  pub leave-ask : EntriesAsk (graph n targets sources) lab (b + n) (b + 4 * n) w₁
+  leave-ask = record { valid = valid-rev (a .valid); size = a .size; few = omega (arith, a .few, a .valid .same); apart = omega arith; room = omega (arith, a .room, x .framed .long) }
+
+  module _ (w₂ : List ℕ) (y : Entered (graph n targets sources) lab (b + n) (b + 4 * n) w₁ w₂) where
+    front-two : (j : ℕ) → j < b + 3 * n → getD w₂ j 0 ≡ getD w j 0
+    front-two j l = y .framed .low j (omega arith) ∙ x .framed .low j l
+
+    pub ranks-ask : RanksAsk (graph n sources targets) lab b w₂
+    ranks-ask =
+        record {
+          ground =
+              record {
+                valid = a .valid;
+                size = a .size;
+                own = a .own;
+                small = a .small;
+                few = a .few;
+                fits = omega (arith, a .room, x .framed .long, y .framed .long);
+              };
+          index = indexed-kept sources n 0 w w₂ (a .valid .from-low) (λ j l m. front-two j (omega (arith, a .below))) (a .index);
+          below = a .below;
+        }
+
+    pub complete-end : (w₃ : List ℕ) (r : Bool) → Ranked (graph n sources targets) lab b w₂ w₃ r → Completed (graph n sources targets) lab b w w₃ r
+    complete-end w₃ r z =
+        record {
+          beyond =
+              record {
+                long = z .frame .long ∙ y .framed .long ∙ x .framed .long;
+                rest = λ j l. z .frame .high j (omega arith) ∙ y .framed .high j (omega arith) ∙ x .framed .high j (omega arith);
+              };
+          front = λ j l. z .frame .low j l ∙ front-two j (omega arith);
+          enters = λ v l. rw (in-now v l) (x .entries (region (inDistances n b) w) (λ u m. refl) v l);
+          leaves = λ v l. rw (out-now v l) (y .entries (region (outDistances n b) w) (λ u m. x .framed .low (b + n + u) (omega arith)) v l);
+          either = z .either (region (inEdges n b) w₃) (λ v l. sym (in-kept v l));
+        }
+      where
+        in-kept : (v : ℕ) → v < n → region (inEdges n b) w₃ v ≡ region (inEdges n b) w₂ v
+        in-kept v l = z .frame .mid (inEdges n b + v) (omega arith) (omega arith)
+
+        in-now : (v : ℕ) → v < n → region (inEdges n b) w₃ v ≡ region (inEdges n b) w₁ v
+        in-now v l = in-kept v l ∙ y .framed .low (inEdges n b + v) (omega arith)
+
+        out-now : (v : ℕ) → v < n → region (outEdges n b) w₃ v ≡ region (outEdges n b) w₂ v
+        out-now v l = z .frame .mid (outEdges n b + v) (omega arith) (omega arith)
+
+-- THE CERTIFICATE: distances, entries and ranks that fit one another are those of the certificate, and the labels are right
+module _ {g : Graph} {lab : List ℕ} {b : ℕ} {w w′ : List ℕ} (ok : Valid g) (counted : (e : ℕ) → T (g .counted e)) (few : edges g ≤ mostEdges)
+    (own : OwnLabels (g .n) lab) (x : Near g lab b w) {r : Bool} (y : Completed g lab b w w′ r) where
+  abbrev d : ℕ → ℕ
+  d = region (inDistances (g .n) b) w
+
+  abbrev out : ℕ → ℕ
+  out = region (outDistances (g .n) b) w
+
+  module _ (p : Peeled g lab (region (inEdges (g .n) b) w′) (region (ranksAt (g .n) b) w′)) where
+    now-right : Right g lab
+    now-right =
+        labels-right ok counted lab own (region (ranksAt (g .n) b) w′)
+        (gone-ranks ok lab own d (region (inEdges (g .n) b) w′) (x .there) (y .enters) few (region (ranksAt (g .n) b) w′) p) d out (x .there) (x .back)
+
+    right-back : Right (rev g) lab
+    right-back v l = label-rev ok (now-right v l)
+
+    at-dist : (v : ℕ) → v < g .n → d v ≡ at (distances g lab) v
+    unfolding distances
+    at-dist v l = near-is ok lab now-right v l (d v) (x .there v l) ∙ sym (getD-table (g .n) (λ v. distOf g (at lab v) v) 0 v l)
+
+    at-back : (v : ℕ) → v < g .n → out v ≡ at (distances (rev g) lab) v
+    unfolding distances
+    at-back v l = near-is (valid-rev ok) lab right-back v l (out v) (x .back v l) ∙ sym (getD-table (g .n) (λ v. distOf (rev g) (at lab v) v) 0 v l)
+
+    at-enter : (v : ℕ) → v < g .n → region (inEdges (g .n) b) w′ v ≡ at (entries g lab (distances g lab)) v
+    unfolding entries
+    at-enter v l =
+        edge-least ok lab own d (x .there) (region (inEdges (g .n) b) w′) (y .enters) counted (distances g lab) at-dist (x .there-low) v l
+        ∙ sym (getD-table (g .n) (λ v. cond (eqb (at lab v) v) noEdge (least (edges g) (λ e. entry g lab (distances g lab) e v))) 0 v l)
+
+    at-leave : (v : ℕ) → v < g .n → region (outEdges (g .n) b) w′ v ≡ at (entries (rev g) lab (distances (rev g) lab)) v
+    unfolding entries
+    at-leave v l =
+        edge-least (valid-rev ok) lab own out (x .back) (region (outEdges (g .n) b) w′) (y .leaves) counted (distances (rev g) lab) at-back (x .back-low) v l
+        ∙ sym (getD-table (g .n) (λ v. cond (eqb (at lab v) v) noEdge (least (edges (rev g)) (λ e. entry (rev g) lab (distances (rev g) lab) e v))) 0 v l)
+
+    at-rank : (v : ℕ) → v < g .n → region (ranksAt (g .n) b) w′ v ≡ at (ranks g lab) v
+    unfolding ranks
+    at-rank v l =
+        rank-right ok counted lab own (region (ranksAt (g .n) b) w′)
+        (gone-ranks ok lab own d (region (inEdges (g .n) b) w′) (x .there) (y .enters) few (region (ranksAt (g .n) b) w′) p) d out (x .there) (x .back) v l
+        ∙ sym (getD-table (g .n) (rankOf g (at lab)) 0 v l)
+
+    pub now-made : Made g lab b w′
+    unfolding certificate
+    now-made =
+        record {
+          right = now-right;
+          rank = at-rank;
+          inEdge = at-enter;
+          inDist = λ v l. y .front (inDistances (g .n) b + v) (omega arith) ∙ at-dist v l;
+          outEdge = at-leave;
+          outDist = λ v l. y .front (outDistances (g .n) b + v) (omega arith) ∙ at-back v l;
+        }
+
+  pub never-stuck : Stuck g lab (region (inEdges (g .n) b) w′) (region (countsAt (g .n) b) w′) → Right g lab → ⊥
+  never-stuck s right = none-stays ok lab own d (region (inEdges (g .n) b) w′) (x .there) (y .enters) few right (region (countsAt (g .n) b) w′) s counted
+
+module _ {n : ℕ} {sources targets lab : List ℕ} {w : List ℕ} (a : WorkAsk (graph n sources targets) lab w) where
+  abbrev t : Graph
+  t = graph n sources targets
+
+  pub work-none : (r : Bool) → Owned n lab r → not r ≡ true → Worked t lab (base t) w w false
+  work-none r o q = record { beyond = record { long = refl; rest = λ j l. refl }; either = inr (refl, go o) }
+    where
+      go : Owned n lab r → Right t lab → ⊥
+      go (inl (p, _)) right = clash r p (not-true-false r q)
+      go (inr (_, f)) right = f (right-own (a .valid) lab right)
+
+  pub owned : (r : Bool) → Owned n lab r → not r ≡ false → OwnLabels n lab
+  owned r (inl (_, o)) q = o
+  owned r (inr (p, _)) q = absurd (clash r (not-false-true r q) p)
+
+  module _ (own : OwnLabels n lab) (w₁ : List ℕ) (r : Bool) (x : Found t lab (base t) w w₁ r) where
+    pub work-stop : not r ≡ true → Worked t lab (base t) w w₁ false
+    work-stop q = record { beyond = record { long = x .beyond .long; rest = λ j l. x .beyond .rest j (omega arith) }; either = inr (refl, go (x .either)) }
+      where
+        go : ((r ≡ true) × Near t lab (base t) w₁) ⊎ ((r ≡ false) × (Right t lab → ⊥)) → Right t lab → ⊥
+        go (inl (p, _)) right = clash r p (not-true-false r q)
+        go (inr (_, f)) right = f right
+
+    module _ (q : not r ≡ false) where
+      near-now : Near t lab (base t) w₁
+      near-now = go (x .either)
+        where
+          go : ((r ≡ true) × Near t lab (base t) w₁) ⊎ ((r ≡ false) × (Right t lab → ⊥)) → Near t lab (base t) w₁
+          go (inl (_, p)) = p
+          go (inr (p, _)) = absurd (clash r (not-false-true r q) p)
+
+      pub complete-ask : CompleteAsk t lab (base t) w₁
+      complete-ask =
+          record {
+            valid = a .valid;
+            size = a .size;
+            own = own;
+            small = a .small;
+            few = a .few;
+            below = omega arith;
+            room = omega (arith, a .room, x .beyond .long);
+            index = near-now .index;
+          }
+
+      pub work-end : (w₂ : List ℕ) (s : Bool) → Completed t lab (base t) w₁ w₂ s → Worked t lab (base t) w w₂ s
+      work-end w₂ s y =
+          record {
+            beyond =
+                record {
+                  long = y .beyond .long ∙ x .beyond .long;
+                  rest = λ j l. y .beyond .rest j (omega arith) ∙ x .beyond .rest j (omega arith);
+                };
+            either = go (y .either);
+          }
+        where
+          go : ((s ≡ true) × Peeled t lab (region (inEdges n (base t)) w₂) (region (ranksAt n (base t)) w₂))
+              ⊎ ((s ≡ false) × Stuck t lab (region (inEdges n (base t)) w₂) (region (countsAt n (base t)) w₂))
+              → ((s ≡ true) × Made t lab (base t) w₂) ⊎ ((s ≡ false) × (Right t lab → ⊥))
+          go (inl (p, z)) = inl (p, now-made (a .valid) (λ e. tt) (a .few) own near-now y z)
+          go (inr (p, z)) = inr (p, never-stuck (a .valid) (λ e. tt) (a .few) own near-now y z)

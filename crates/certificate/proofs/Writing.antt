@@ -1,0 +1,233 @@
+-- What the call's tests give, and how the stages keep the promise.
+use Prim.Native.Nat.{ℕ, _+_, _≤_, _<_}
+use native.Mathlib.Omega.{arith}
+use native.Mathlib.Nat.{suc-ne-zero}
+use native.Mathlib.Decide.{ℕ-discrete}
+use mathlib.Core.Path.{_≡_, refl, sym, _∙_}
+use mathlib.Core.Logic.{_⊎_, inl, inr, by-cases}
+use mathlib.Core.Bool.{Bool, true, false, not}
+use mathlib.Core.List.{List}
+use lib.ListN.{length, getD}
+use lib.Seq.{ext-getD}
+use lib.Dec.{T, eqb}
+use borrow.Author.Tests.{eqb-true, ltb-false, not-false, eq-eqb, ne-eqb}
+use Rattle.graph.specs.Graph.{Valid}
+use Rattle.graph.specs.Numbers.{some-below}
+use Rattle.graph.specs.Search.{labelOf, labels}
+use Rattle.graph.specs.Limits.{wrongLabels, numbersNeeded, wordsNeeded}
+use Rattle.graph.specs.Refusal.{given, _or_, tableRefusal}
+use Rattle.graph.specs.Checker.{Columns, Sized, at}
+use Rattle.graph.specs.Certificate.{Right, certificate, ranks, distances, entries}
+use Rattle.graph.proofs.Tests.{some-below-iff, length-table}
+use Rattle.graph.proofs.Search.{label-is, label-eq}
+use Rattle.graph.proofs.Refusals.{or-stop, or-pass, or-none, given-none, or-left-none, Passed, table-passed, passed-valid}
+use Rattle.certificate.specs.Memory.{Copied}
+use Rattle.certificate.specs.Work.{base, Beyond, WorkAsk, Made, Worked, HandAsk, Handed, ClearAsk, Cleared}
+use Rattle.certificate.proofs.Classing.{clash, not-true-false, not-false-true}
+use Rattle.certificate.specs.Promise.{lent, Call, call, table, columns, wrongSize, wrongLabel, earlyRefusal, writerRefusal, Promise}
+
+-- what a call has that is not refused by 1 to 6
+pub record Ready (c : Call) : Type 0 where
+  pub passed : Passed (c .n) (c .sources) (c .targets)
+  pub sized : Sized (c .n) (columns (c .label) (c .lends))
+  pub numbers-room : numbersNeeded (c .n) (length (c .sources)) ≤ length (c .lends .numbers)
+  pub words-room : wordsNeeded (c .n) ≤ length (c .lends .words)
+
+sized-columns : (n : ℕ) (c : Columns) → wrongSize n c ≡ false → Sized n c
+unfolding wrongSize
+sized-columns n c e =
+    let (r5, e6) = or-left-none _ _ e in
+    let (r4, e5) = or-left-none _ _ r5 in
+    let (r3, e4) = or-left-none _ _ r4 in
+    let (r2, e3) = or-left-none _ _ r3 in
+    let (e1, e2) = or-left-none _ _ r2 in
+    record {
+      label = eqb-true _ n (not-false _ e1);
+      rank = eqb-true _ n (not-false _ e2);
+      inEdge = eqb-true _ n (not-false _ e3);
+      inDist = eqb-true _ n (not-false _ e4);
+      outEdge = eqb-true _ n (not-false _ e5);
+      outDist = eqb-true _ n (not-false _ e6);
+    }
+
+given-low : (k : ℕ) (b : Bool) (x : ℕ) → k ≤ x → given k b ≤ x
+unfolding given
+given-low k true x l = l
+given-low k false x l = omega arith
+
+or-low : (a b x : ℕ) → a ≤ x → b ≤ x → (a or b) ≤ x
+or-low a b x l m = by-cases (ℕ-discrete a 0) (λ q. rw (or-pass a b q) m) (λ o. rw (or-stop a b o) l)
+
+module _ (c : Call) where
+  pub early-low : earlyRefusal c ≤ 6
+  unfolding earlyRefusal tableRefusal
+  early-low =
+      or-low _ _ 6 (or-low _ _ 6 (given-low 1 _ 6 (omega arith)) (or-low _ _ 6 (given-low 2 _ 6 (omega arith)) (or-low _ _ 6 (given-low 3 _ 6 (omega arith)) (given-low 4 _ 6 (omega arith)))))
+      (or-low _ _ 6 (given-low 5 _ 6 (omega arith)) (given-low 6 _ 6 (omega arith)))
+
+  pub early-ready : earlyRefusal c ≡ 0 → Ready c
+  unfolding earlyRefusal
+  early-ready e =
+      let (e1, r) = or-none (tableRefusal (c .n) (c .sources) (c .targets)) _ e in
+      let (e5, e6) = or-none _ _ r in
+      let (s, t) = or-left-none _ _ (given-none 6 _ (suc-ne-zero 5) e6) in
+      record {
+        passed = table-passed (c .n) (c .sources) (c .targets) e1;
+        sized = sized-columns (c .n) (columns (c .label) (c .lends)) (given-none 5 _ (suc-ne-zero 4) e5);
+        numbers-room = ltb-false _ _ s;
+        words-room = ltb-false _ _ t;
+      }
+
+  pub refused-promise : (k : ℕ) → k ≡ earlyRefusal c → (k ≡ 0 → ⊥) → Promise c k (c .lends)
+  unfolding writerRefusal
+  refused-promise k e o =
+      record {
+        number = rw (← e, or-stop k _ o);
+        written = λ z. absurd (o z);
+        wrong = λ z. absurd (omega (arith, early-low));
+        refused = λ _ _. refl;
+      }
+
+  module _ (fine : earlyRefusal c ≡ 0) where
+    ready : Ready c
+    ready = early-ready fine
+
+    valid : Valid (table c)
+    valid = passed-valid (c .n) (c .sources) (c .targets) (ready .passed)
+
+    pub work-ask : WorkAsk (table c) (c .label) (c .lends .numbers)
+    work-ask =
+        record {
+          valid = valid;
+          counted = λ e. refl;
+          size = ready .sized .label;
+          small = ready .passed .small;
+          few = ready .passed .few;
+          room = ready .numbers-room;
+        }
+
+    pub clear-ask : (w : List ℕ) → length w ≡ length (c .lends .numbers) → ClearAsk (c .n) (length (c .sources)) w (c .lends .words)
+    clear-ask w q =
+        record { small = ready .passed .small; few = ready .passed .few; numbers-room = omega (arith, ready .numbers-room); words-room = ready .words-room }
+
+    pub hand-ask : (w : List ℕ) → length w ≡ length (c .lends .numbers) → HandAsk (c .n) (base (table c)) w (c .lends .rank) (c .lends .inEdge) (c .lends .inDist) (c .lends .outEdge) (c .lends .outDist)
+    hand-ask w q =
+        record {
+          room = omega (arith, ready .numbers-room);
+          rank-size = ready .sized .rank;
+          inEdge-size = ready .sized .inEdge;
+          inDist-size = ready .sized .inDist;
+          outEdge-size = ready .sized .outEdge;
+          outDist-size = ready .sized .outDist;
+        }
+
+    -- right labels are those that the test lets pass
+    right-passes : Right (table c) (c .label) → wrongLabel (table c) (c .label) ≡ false
+    unfolding wrongLabel
+    right-passes right = none (some-below (c .n) _) (λ t.
+        let (v, l, s) = some-below-iff (c .n) (λ v. not (eqb (at (c .label) v) (labelOf (table c) v))) .0 t in
+        not-both (eqb (at (c .label) v) (labelOf (table c) v)) (eq-eqb _ _ (label-eq valid l (right v l))) s)
+      where
+        none : (b : Bool) → (T b → ⊥) → b ≡ false
+        none true o = absurd (o tt)
+        none false o = refl
+
+        not-both : (b : Bool) → b ≡ true → T (not b) → ⊥
+        not-both true q t = t
+        not-both false q t = let z : _≡_ {A = ℕ} 0 1 = cc in omega arith
+
+    passes-right : wrongLabel (table c) (c .label) ≡ false → Right (table c) (c .label)
+    unfolding wrongLabel
+    passes-right q v l = by-cases (ℕ-discrete (at (c .label) v) (labelOf (table c) v))
+        (λ z. rw z (label-is valid v l))
+        (λ o. absurd (clash-here (some-below (c .n) _) q (some-below-iff (c .n) (λ v. not (eqb (at (c .label) v) (labelOf (table c) v))) .1 (v, l, rw (ne-eqb (at (c .label) v) (labelOf (table c) v) o) tt))))
+      where
+        clash-here : (b : Bool) → b ≡ false → T b → ⊥
+        clash-here true q t = let z : _≡_ {A = ℕ} 0 1 = cc in omega arith
+        clash-here false q t = t
+
+    wrong-fails : (Right (table c) (c .label) → ⊥) → wrongLabel (table c) (c .label) ≡ true
+    wrong-fails o = go (wrongLabel (table c) (c .label)) refl
+      where
+        go : (b : Bool) → wrongLabel (table c) (c .label) ≡ b → wrongLabel (table c) (c .label) ≡ true
+        go true q = q
+        go false q = absurd (o (passes-right q))
+
+    -- the working memory is zeroed after the stages
+    tidy : (w w′ words′ : List ℕ) → Beyond (numbersNeeded (c .n) (length (c .sources))) (c .lends .numbers) w → Cleared (c .n) (length (c .sources)) w w′ (c .lends .words) words′
+        → Cleared (c .n) (length (c .sources)) (c .lends .numbers) w′ (c .lends .words) words′
+    tidy w w′ words′ f x =
+        record {
+          numbers-zero =
+              record {
+                long = x .numbers-zero .long ∙ f .long;
+                front = x .numbers-zero .front;
+                rest = λ j l. x .numbers-zero .rest j l ∙ f .rest j l;
+              };
+          words-zero = x .words-zero;
+        }
+
+    pub wrong-promise : (r : Bool) (w w′ words′ : List ℕ) → Worked (table c) (c .label) (base (table c)) (c .lends .numbers) w r → not r ≡ true
+        → Cleared (c .n) (length (c .sources)) w w′ (c .lends .words) words′
+        → Promise c wrongLabels (lent (c .lends .rank) (c .lends .inEdge) (c .lends .inDist) (c .lends .outEdge) (c .lends .outDist) w′ words′)
+    unfolding writerRefusal given _or_
+    wrong-promise r w w′ words′ x f z =
+        record {
+          number = rw (fine, wrong-fails (go (x .either)));
+          written = λ q. absurd (omega arith);
+          wrong = λ q. (refl, tidy w w′ words′ (x .beyond) z);
+          refused = λ p q. absurd (q refl);
+        }
+      where
+        go : ((r ≡ true) × Made (table c) (c .label) (base (table c)) w) ⊎ ((r ≡ false) × (Right (table c) (c .label) → ⊥)) → Right (table c) (c .label) → ⊥
+        go (inl (q, _)) right = clash r q (not-true-false r f)
+        go (inr (_, o)) right = o right
+
+    columns-same : {label rank rank′ inEdge inEdge′ inDist inDist′ outEdge outEdge′ outDist outDist′ : List ℕ}
+        → rank ≡ rank′ → inEdge ≡ inEdge′ → inDist ≡ inDist′ → outEdge ≡ outEdge′ → outDist ≡ outDist′
+        → _≡_ {A = Columns} (record { label = label; rank = rank; inEdge = inEdge; inDist = inDist; outEdge = outEdge; outDist = outDist })
+        (record { label = label; rank = rank′; inEdge = inEdge′; inDist = inDist′; outEdge = outEdge′; outDist = outDist′ })
+    columns-same p q r s t = rw (p, q, r, s, t)
+
+    -- a column that was copied is the certificate's
+    column-same : (w : List ℕ) (a : ℕ) (column column′ wanted : List ℕ) → length column ≡ c .n → length wanted ≡ c .n
+        → Copied w a column column′ → ((v : ℕ) → v < c .n → getD w (a + v) 0 ≡ at wanted v) → column′ ≡ wanted
+    column-same w a column column′ wanted p q x f = ext-getD 0 column′ wanted (x .long ∙ p ∙ sym q) (λ v l. x .each v (omega (arith, x .long)) ∙ f v (omega (arith, x .long)))
+
+    pub done-promise : (r : Bool) (w w′ words′ rank′ inEdge′ inDist′ outEdge′ outDist′ : List ℕ)
+        → Worked (table c) (c .label) (base (table c)) (c .lends .numbers) w r → not r ≡ false
+        → Handed (c .n) (base (table c)) w (c .lends .rank) rank′ (c .lends .inEdge) inEdge′ (c .lends .inDist) inDist′ (c .lends .outEdge) outEdge′ (c .lends .outDist) outDist′
+        → Cleared (c .n) (length (c .sources)) w w′ (c .lends .words) words′
+        → Promise c 0 (lent rank′ inEdge′ inDist′ outEdge′ outDist′ w′ words′)
+    unfolding writerRefusal given _or_ certificate ranks distances entries
+    done-promise r w w′ words′ rank′ inEdge′ inDist′ outEdge′ outDist′ x f h z =
+        record {
+          number = rw (fine, right-passes (made .right));
+          written = λ q. (
+            columns-same
+                (column-same w _ (c .lends .rank) rank′ _ (ready .sized .rank) (length-table (c .n) _) (h .to-rank) (made .rank))
+                (column-same w _ (c .lends .inEdge) inEdge′ _ (ready .sized .inEdge) (length-table (c .n) _) (h .to-inEdge) (made .inEdge))
+                (column-same w _ (c .lends .inDist) inDist′ _ (ready .sized .inDist) (length-table (c .n) _) (h .to-inDist) (made .inDist))
+                (column-same w _ (c .lends .outEdge) outEdge′ _ (ready .sized .outEdge) (length-table (c .n) _) (h .to-outEdge) (made .outEdge))
+                (column-same w _ (c .lends .outDist) outDist′ _ (ready .sized .outDist) (length-table (c .n) _) (h .to-outDist) (made .outDist)),
+            tidy w w′ words′ (x .beyond) z,
+          );
+          wrong = λ q. absurd (omega arith);
+          refused = λ p q. absurd (p refl);
+        }
+      where
+        go : ((r ≡ true) × Made (table c) (c .label) (base (table c)) w) ⊎ ((r ≡ false) × (Right (table c) (c .label) → ⊥)) → Made (table c) (c .label) (base (table c)) w
+        go (inl (_, m)) = m
+        go (inr (q, _)) = absurd (clash r (not-false-true r f) q)
+
+        made : Made (table c) (c .label) (base (table c)) w
+        made = go (x .either)
+
+-- what the number 0 says of the call
+pub ready-of : (c : Call) → writerRefusal c ≡ 0 → Valid (table c) × (length (c .label) ≡ c .n)
+unfolding writerRefusal
+ready-of c e = let r = early-ready c (or-none (earlyRefusal c) _ e .0) in (passed-valid (c .n) (c .sources) (c .targets) (r .passed), r .sized .label)
+
+pub right-of : (c : Call) → writerRefusal c ≡ 0 → Right (table c) (c .label)
+unfolding writerRefusal
+right-of c e = let (p, q) = or-none (earlyRefusal c) _ e in passes-right c p (given-none 10 _ (suc-ne-zero 9) q)

@@ -1,0 +1,140 @@
+// The certificate writer: it reads the labels and fills the other five columns.
+ghost use mathlib.Core.Path.{_≡_};
+ghost use Rattle.certificate.specs.Work.{ClearAsk, Cleared, HandAsk, Handed};
+ghost use Rattle.certificate.specs.Promise.{lent, call, earlyRefusal, Promise};
+use graph::limits;
+use graph::table;
+
+mod classes;
+mod entries;
+mod memory;
+mod ranks;
+mod work;
+
+// The first of 1 to 6 that applies, else 0.
+fn refusal(
+    n: usize,
+    sources: &[u32],
+    targets: &[u32],
+    label: &[u32],
+    rank: &[u32],
+    in_edge: &[u32],
+    in_distance: &[u32],
+    out_edge: &[u32],
+    out_distance: &[u32],
+    numbers: &[u32],
+    words: &[u64],
+) -> u32
+    ensures { λ r. ⌜ r ≡ earlyRefusal (call n (now (sources .entry)) (now (targets .entry)) (now (label .entry)) (lent (now (rank .entry)) (now («in_edge» .entry)) (now («in_distance» .entry)) (now («out_edge» .entry)) (now («out_distance» .entry)) (now (numbers .entry)) (now (words .entry)))) ⌝ }
+{
+    let k = table::check(n, sources, targets);
+    if k != 0 {
+        return k;
+    }
+    if label.len() != n {
+        return limits::WRONG_LENGTH;
+    }
+    if rank.len() != n {
+        return limits::WRONG_LENGTH;
+    }
+    if in_edge.len() != n {
+        return limits::WRONG_LENGTH;
+    }
+    if in_distance.len() != n {
+        return limits::WRONG_LENGTH;
+    }
+    if out_edge.len() != n {
+        return limits::WRONG_LENGTH;
+    }
+    if out_distance.len() != n {
+        return limits::WRONG_LENGTH;
+    }
+    if numbers.len() < 12 * n + 2 * sources.len() + 16 {
+        return limits::MEMORY_SHORT;
+    }
+    if words.len() < 6 * ((n + 63) / 64) {
+        return limits::MEMORY_SHORT;
+    }
+    0
+}
+
+// The five columns become what stands in their regions.
+fn hand(
+    n: usize,
+    numbers: &[u32],
+    b: usize,
+    rank: &mut [u32],
+    in_edge: &mut [u32],
+    in_distance: &mut [u32],
+    out_edge: &mut [u32],
+    out_distance: &mut [u32],
+)
+    requires { ⌜ HandAsk n b (now numbers) (now rank) (now «in_edge») (now «in_distance») (now «out_edge») (now «out_distance») ⌝ }
+    ensures { λ _. ⌜ Handed n b (now (numbers .entry)) (now (rank .entry)) (now (rank .exit)) (now («in_edge» .entry)) (now («in_edge» .exit)) (now («in_distance» .entry)) (now («in_distance» .exit)) (now («out_edge» .entry)) (now («out_edge» .exit)) (now («out_distance» .entry)) (now («out_distance» .exit)) ⌝ }
+{
+    memory::copy(numbers, b + 5 * n, rank);
+    memory::copy(numbers, b + 3 * n, in_edge);
+    memory::copy(numbers, b, in_distance);
+    memory::copy(numbers, b + 4 * n, out_edge);
+    memory::copy(numbers, b + n, out_distance);
+}
+
+// The working memory that a call needs becomes zero.
+fn clear(n: usize, m: usize, numbers: &mut [u32], words: &mut [u64])
+    requires { ⌜ ClearAsk n m (now numbers) (now words) ⌝ }
+    ensures { λ _. ⌜ Cleared n m (now (numbers .entry)) (now (numbers .exit)) (now (words .entry)) (now (words .exit)) ⌝ }
+{
+    index::memory::zero_numbers(numbers, 12 * n + 2 * m + 16);
+    index::memory::zero_words(words, 6 * ((n + 63) / 64));
+}
+
+// Five columns from the labels: shortest distances from and to the label, the smallest edges that fit them, the ranks. The number returned.
+pub fn write(
+    n: usize,
+    sources: &[u32],
+    targets: &[u32],
+    label: &[u32],
+    rank: &mut [u32],
+    in_edge: &mut [u32],
+    in_distance: &mut [u32],
+    out_edge: &mut [u32],
+    out_distance: &mut [u32],
+    numbers: &mut [u32],
+    words: &mut [u64],
+) -> u32
+    ensures { λ r. ⌜ Promise (call n (now (sources .entry)) (now (targets .entry)) (now (label .entry)) (lent (now (rank .entry)) (now («in_edge» .entry)) (now («in_distance» .entry)) (now («out_edge» .entry)) (now («out_distance» .entry)) (now (numbers .entry)) (now (words .entry)))) r (lent (now (rank .exit)) (now («in_edge» .exit)) (now («in_distance» .exit)) (now («out_edge» .exit)) (now («out_distance» .exit)) (now (numbers .exit)) (now (words .exit))) ⌝ }
+{
+    let k = refusal(
+        n,
+        sources,
+        targets,
+        label,
+        rank,
+        in_edge,
+        in_distance,
+        out_edge,
+        out_distance,
+        numbers,
+        words,
+    );
+    if k != 0 {
+        return k;
+    }
+    let m = sources.len();
+    if !work::work(sources, targets, n, label, numbers) {
+        clear(n, m, numbers, words);
+        return limits::WRONG_LABELS;
+    }
+    hand(
+        n,
+        numbers,
+        2 * (n + 1 + m),
+        rank,
+        in_edge,
+        in_distance,
+        out_edge,
+        out_distance,
+    );
+    clear(n, m, numbers, words);
+    0
+}

@@ -1,0 +1,53 @@
+// The stages: distances along both indexes, entries both ways, ranks. All of it in the working numbers.
+ghost use Prim.Native.Nat.{_+_, _*_};
+ghost use lib.ListN.{length};
+ghost use Rattle.graph.specs.Graph.{graph};
+ghost use Rattle.certificate.specs.Work.{base, FindAsk, Found, CompleteAsk, Completed, WorkAsk, Worked};
+use crate::classes;
+use crate::entries;
+use crate::ranks;
+use index::build;
+
+// The distances from and to the labels; false if some vertex is not reached inside its class.
+fn find(sources: &[u32], targets: &[u32], n: usize, label: &[u32], w: &mut [u32], b: usize) -> bool
+    requires { ⌜ FindAsk (graph n (now sources) (now targets)) (now label) b (now w) ⌝ }
+    ensures { λ r. ⌜ Found (graph n (now (sources .entry)) (now (targets .entry))) (now (label .entry)) b (now (w .entry)) (now (w .exit)) r ⌝ }
+{
+    build::both(sources, targets, n, w);
+    if !classes::distances(sources, targets, n, label, w, 0, b) {
+        return false;
+    }
+    classes::distances(targets, sources, n, label, w, n + 1 + sources.len(), b + n)
+}
+
+// The entries both ways and the ranks; false if some class never goes.
+fn complete(
+    sources: &[u32],
+    targets: &[u32],
+    n: usize,
+    label: &[u32],
+    w: &mut [u32],
+    b: usize,
+) -> bool
+    requires { ⌜ CompleteAsk (graph n (now sources) (now targets)) (now label) b (now w) ⌝ }
+    ensures { λ r. ⌜ Completed (graph n (now (sources .entry)) (now (targets .entry))) (now (label .entry)) b (now (w .entry)) (now (w .exit)) r ⌝ }
+{
+    entries::entries(sources, targets, n, label, w, b, b + 3 * n);
+    entries::entries(targets, sources, n, label, w, b + n, b + 4 * n);
+    ranks::ranks(sources, targets, n, label, w, b)
+}
+
+// The certificate in its regions; false if the labels are not right.
+pub fn work(sources: &[u32], targets: &[u32], n: usize, label: &[u32], w: &mut [u32]) -> bool
+    requires { ⌜ WorkAsk (graph n (now sources) (now targets)) (now label) (now w) ⌝ }
+    ensures { λ r. ⌜ Worked (graph n (now (sources .entry)) (now (targets .entry))) (now (label .entry)) (2 * (n + 1 + length (now (sources .entry)))) (now (w .entry)) (now (w .exit)) r ⌝ }
+{
+    if !classes::own_labels(n, label) {
+        return false;
+    }
+    let b = 2 * (n + 1 + sources.len());
+    if !find(sources, targets, n, label, w, b) {
+        return false;
+    }
+    complete(sources, targets, n, label, w, b)
+}
