@@ -37,8 +37,8 @@ along-less n b q h i u w c a l m e o =
       | no y ↦ absurd (c .next i l (a .here l) .none u (omega arith) m (e ∙ sym (a .here l)))
     ]
 
-pub aim-none : (n m b h q : ℕ) (w : List ℕ) → AimAsk n m b h q w → Aimed n m b q h w w
-aim-none n m b h q w a = record {
+pub aim-none : {n m b h q : ℕ} {w : List ℕ} → AimAsk n m b h q w → Aimed n m b q h w w
+aim-none a = record {
   out = λ u l e. absurd (a .chain .head .none u l e);
   into = λ u l e. absurd (a .chain .head .none u l e);
   low = λ j l. refl;
@@ -46,7 +46,7 @@ aim-none n m b h q w a = record {
   long = refl;
 }
 
-module _ (n m b h q : ℕ) (w₀ : List ℕ) (a : AimAsk n m b h q w₀) (i : ℕ) (w : List ℕ) (z : Aimed n m b q i w₀ w) (p : Along n b q w₀ i) (l : i < n) where
+module _ {n m b h q : ℕ} {w₀ : List ℕ} (a : AimAsk n m b h q w₀) {i : ℕ} {w : List ℕ} (z : Aimed n m b q i w₀ w) (p : Along n b q w₀ i) (l : i < n) where
   pub aim-next : getD w (b + 2 * n + i) 0 ≡ nxt n b w₀ i
   aim-next = z .low (b + 2 * n + i) (omega arith)
 
@@ -92,11 +92,11 @@ module _ (n m b h q : ℕ) (w₀ : List ℕ) (a : AimAsk n m b h q w₀) (i : �
   aim-step = step (getD w (b + 9 * n + 2 + i) 0) aim-place
 
 -- cursors that were set to the first edges
-module _ (g : Graph) (b h q : ℕ) (w : List ℕ) (a : TrimAsk g b h q w) where
+module _ {g : Graph} {b h q : ℕ} {w : List ℕ} (a : TrimAsk g b h q w) where
   pub trim-aim : AimAsk (g .n) (edges g) b h q w
   trim-aim = record { chain = a .chain; below = omega (arith, a .bwd .below, a .fwd .valid .same); long = a .long; small = a .small }
 
-  module _ (w' : List ℕ) (z : Aimed (g .n) (edges g) b q (g .n) w w') where
+  module _ {w' : List ℕ} (z : Aimed (g .n) (edges g) b q (g .n) w w') where
     same-col : (v : ℕ) → v < g .n → col b w' v ≡ col b w v
     same-col v l = z .low (b + v) (omega arith)
 

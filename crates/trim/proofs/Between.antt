@@ -20,12 +20,12 @@ use Rattle.trim.specs.Trim.{hued}
 use Rattle.trim.specs.Stages.{Coloured, Nearer, StringAsk, From, Strung, Kept, Collected}
 
 -- A SET BECOMES A COLOUR
-module _ (n b : ℕ) (part w : List ℕ) where
+module _ {n b : ℕ} {part w : List ℕ} where
   pub coloured-none : Coloured 0 n b part w w
   coloured-none = record { colours = λ v h. absurd (omega arith); frame = record { long = refl; low = λ j h. refl; high = λ j h. refl } }
 
-  pub coloured-more : (i : ℕ) (w' : List ℕ) (y : ℕ) → i < n → b + n ≤ length w → y ≡ n + 1 - bit part i → Coloured i n b part w w' → Coloured (i + 1) n b part w (set w' (b + i) y)
-  coloured-more i w' y l r e z = record {
+  pub coloured-more : {i : ℕ} {w' : List ℕ} (y : ℕ) → i < n → b + n ≤ length w → y ≡ n + 1 - bit part i → Coloured i n b part w w' → Coloured (i + 1) n b part w (set w' (b + i) y)
+  coloured-more {i} {w'} y l r e z = record {
     colours = λ v h. elim (ℕ-discrete v i) as (λ _. getD (set w' (b + i) y) (b + v) 0 ≡ n + 1 - bit part v) [
       | yes q ↦ rw q (getD-set-same w' (b + i) y 0 (omega (arith, z .frame .long)) ∙ e)
       | no q ↦ getD-set-other w' (b + i) (b + v) y 0 (omega arith) ∙ z .colours v (omega arith)
@@ -38,8 +38,8 @@ module _ (n b : ℕ) (part w : List ℕ) where
   }
 
 -- THE CHAIN, FROM ITS END
-pub strung-none : (n b q : ℕ) (w : List ℕ) → Strung n b q n n w w
-strung-none n b q w = record {
+pub strung-none : {n b q : ℕ} {w : List ℕ} → Strung n b q n n w w
+strung-none = record {
   first = record { least = omega arith; most = omega arith; here = λ h. absurd (omega arith); none = λ u h l. absurd (omega arith) };
   order = λ j h l. absurd (omega arith);
   next = λ j h l. absurd (omega arith);
@@ -48,7 +48,7 @@ strung-none n b q w = record {
   long = refl;
 }
 
-module _ (n b q : ℕ) (w₀ : List ℕ) (a : StringAsk n b w₀) (i h : ℕ) (w : List ℕ) (l : i < n) (z : Strung n b q (i + 1) h w₀ w) where
+module _ {n b q : ℕ} {w₀ : List ℕ} (a : StringAsk n b w₀) (i : ℕ) {h : ℕ} {w : List ℕ} (l : i < n) (z : Strung n b q (i + 1) h w₀ w) where
   abbrev w₂ : List ℕ
   w₂ = set (set w (b + 9 * n + 2 + i) i) (b + 2 * n + i) h
 
@@ -68,8 +68,8 @@ module _ (n b q : ℕ) (w₀ : List ℕ) (a : StringAsk n b w₀) (i h : ℕ) (w
     none = λ u s t e. elim (ℕ-discrete u i) as (λ _. ⊥) [ yes y ↦ o (ap (col b w₀) (sym y) ∙ e) | no y ↦ z .first .none u (omega arith) t e ];
   })
 
-  pub strung-more : (r : ℕ) → Nearer (getD (set (set w (b + 9 * n + 2 + i) i) (b + 2 * n + i) h) (b + i) 0) q i h r → Strung n b q i r w₀ w₂
-  strung-more r c = record {
+  pub strung-more : {r : ℕ} → Nearer (getD (set (set w (b + 9 * n + 2 + i) i) (b + 2 * n + i) h) (b + i) 0) q i h r → Strung n b q i r w₀ w₂
+  strung-more {r} c = record {
     first = start-from r (rw string-colour at c);
     order = λ j s t. elim (ℕ-discrete j i) as (λ _. ord n b w₂ j ≡ j) [
       | yes y ↦ rw y (getD-set-other (set w (b + 9 * n + 2 + i) i) (b + 2 * n + i) (b + 9 * n + 2 + i) h 0 (omega arith)
@@ -112,19 +112,19 @@ hued-out b q i w o = rw (lt-ltb i (i + 1) (omega arith), ne-eqb (col b w i) q o)
 hued-end : (b q i : ℕ) (w : List ℕ) → hued i b q w i ≡ false
 hued-end b q i w = rw (le-ltb i i (omega arith))
 
-module _ (b q : ℕ) (w r₀ : List ℕ) where
+module _ {b q : ℕ} {w r₀ : List ℕ} where
   pub collected-none : ((v : ℕ) → bit r₀ v ≡ 0) → Collected 0 b q w r₀ r₀
   collected-none f = record { long = refl; set = λ v. f v ∙ sym (ap (λ (t : Bool). cond (t && eqb (col b w v) q) 1 0) (le-ltb v 0 (omega arith))) }
 
-  pub collected-more : (i : ℕ) (r r' : List ℕ) → Kept b i q w r r' → Collected i b q w r₀ r → Collected (i + 1) b q w r₀ r'
-  collected-more i r r' (inl (e, d)) z = record {
+  pub collected-more : {i : ℕ} {r r' : List ℕ} → Kept b i q w r r' → Collected i b q w r₀ r → Collected (i + 1) b q w r₀ r'
+  collected-more {i} {r} {r'} (inl (e, d)) z = record {
     long = d .long ∙ z .long;
     set = λ v. elim (ℕ-discrete v i) as (λ _. bit r' v ≡ cond (hued (i + 1) b q w v) 1 0) [
       | yes y ↦ rw y (d .here ∙ sym (ap (λ (t : Bool). cond t 1 0) (hued-in b q i w e)))
       | no y ↦ d .else v y ∙ z .set v ∙ sym (ap (λ (t : Bool). cond t 1 0) (hued-more b q i v w y))
     ];
   }
-  collected-more i r r' (inr (o, s)) z = record {
+  collected-more {i} {r} {r'} (inr (o, s)) z = record {
     long = ap length s ∙ z .long;
     set = λ v. elim (ℕ-discrete v i) as (λ _. bit r' v ≡ cond (hued (i + 1) b q w v) 1 0) [
       | yes y ↦ rw y (ap (λ (x : List ℕ). bit x i) s ∙ z .set i ∙ ap (λ (t : Bool). cond t 1 0) (hued-end b q i w ∙ sym (hued-out b q i w o)))

@@ -59,7 +59,7 @@ module _ (g : Graph) (b q : ℕ) (w : List ℕ) where
       (λ u i. rw (sym i) ((e, v, refl, y), (e, v, refl, y))) v refl)
 
 -- THE STAGES OF TRIMMING
-module _ (g : Graph) (b h q : ℕ) (w : List ℕ) (a : TrimAsk g b h q w) (w₁ : List ℕ) (m : Aimed (g .n) (edges g) b q (g .n) w w₁) where
+module _ {g : Graph} {b h q : ℕ} {w : List ℕ} (a : TrimAsk g b h q w) {w₁ : List ℕ} (m : Aimed (g .n) (edges g) b q (g .n) w w₁) where
   col₁ : (v : ℕ) → v < g .n → col b w₁ v ≡ col b w v
   col₁ v l = m .low (b + v) (omega arith)
 
@@ -72,7 +72,7 @@ module _ (g : Graph) (b h q : ℕ) (w : List ℕ) (a : TrimAsk g b h q w) (w₁ 
 
   pub pass-ask : PassAsk g b h q w₁
   pass-ask = record {
-    state = record { walking = aim-walking g b h q w a w₁ m; gone = λ i l. absurd (omega arith); room = omega (arith, many-le (λ u. eqb (col b w₁ u) q) (g .n)) };
+    state = record { walking = aim-walking a m; gone = λ i l. absurd (omega arith); room = omega (arith, many-le (λ u. eqb (col b w₁ u) q) (g .n)) };
     long = omega (arith, a .long, m .long);
     chain = record {
       placed = record { low = λ i l. rw (ord₁ i) (a .chain .placed .low i l); all = λ v l. let (i, t, e) = a .chain .placed .all v l in (i, t, ord₁ i ∙ e) };
@@ -99,13 +99,13 @@ module _ (g : Graph) (b h q : ℕ) (w : List ℕ) (a : TrimAsk g b h q w) (w₁ 
         none = λ u s t e. f .none u s t (sym (own₁ u (omega (arith, f .most))) ∙ e ∙ own₁ i l);
       }
 
-  module _ (w₂ : List ℕ) (k₂ : ℕ) (p : Passed g b q w₁ w₂ k₂) where
+  module _ {w₂ : List ℕ} {k₂ : ℕ} (p : Passed g b q w₁ w₂ k₂) where
     pub drain-ask : DrainAsk g b q k₂ w₂
     drain-ask = record { state = p .pruned .state; standing = p .standing }
 
-    module _ (w₃ : List ℕ) (k₃ : ℕ) (d : Drained g b q k₂ w₂ w₃ k₃) where
+    module _ {w₃ : List ℕ} {k₃ : ℕ} (d : Drained g b q k₂ w₂ w₃ k₃) where
       run : Pruned g b q 0 w₁ w₃ k₃
-      run = pruned-more g b q 0 w₁ w₂ w₃ k₂ k₃ (p .pruned) (d .pruned)
+      run = pruned-more (p .pruned) (d .pruned)
 
       -- what is left is tight, so it is in the core
       left-tight : Tight g (Hued (g .n) b q w₃)

@@ -24,17 +24,17 @@ use Rattle.trim.proofs.Walks.{side-kept, ahead-low}
 use Rattle.trim.proofs.Steps.{pruned-none}
 
 -- it is not in the part any more
-pub examine-skip : (g : Graph) (b v q k : ℕ) (w : List ℕ) → ExamineAsk g b v q k w → (col b w v ≡ q → ⊥) → Examined g b v q k w w k
-examine-skip g b v q k w a o = record { pruned = pruned-none g b q k w (a .state); stands = λ p. absurd (o p) }
+pub examine-skip : {g : Graph} {b v q k : ℕ} {w : List ℕ} → ExamineAsk g b v q k w → (col b w v ≡ q → ⊥) → Examined g b v q k w w k
+examine-skip a o = record { pruned = pruned-none (a .state); stands = λ p. absurd (o p) }
 
-module _ (g : Graph) (b v q k : ℕ) (w : List ℕ) (a : ExamineAsk g b v q k w) (here : col b w v ≡ q) where
+module _ {g : Graph} {b v q k : ℕ} {w : List ℕ} (a : ExamineAsk g b v q k w) (here : col b w v ≡ q) where
   pub tied-ask : TiedAsk g b v q w
   tied-ask = record { walking = a .state .walking; low = a .low; live = here }
 
   pub k-low : k < g .n
   k-low = omega (arith, a .state .room, many-more (λ u. false) (λ u. eqb (col b w u) q) (g .n) (λ i l e. absurd e) v (a .low) (λ e. e) (eq-T (col b w v) q here))
 
-  module _ (w₁ : List ℕ) (r : ℕ) (t : Tied g b v q w w₁ r) where
+  module _ {w₁ : List ℕ} {r : ℕ} (t : Tied g b v q w w₁ r) where
     col₁ : (u : ℕ) → u < g .n → col b w₁ u ≡ col b w u
     col₁ u l = t .else (b + u) (omega arith) (omega arith)
 

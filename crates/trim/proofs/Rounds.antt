@@ -20,11 +20,11 @@ use Rattle.trim.proofs.Aims.{Along, along-less}
 use Rattle.trim.proofs.Steps.{shrinks, fresh-kept, standing-kept, stands-fresh, stands-standing, fresh-off, pruned-none, pruned-more}
 
 -- THE NEIGHBOURS AT THE PLACES OF AN INDEX
-pub around-none : (g : Graph) (eb b : ℕ) (ends : List ℕ) (i t q k : ℕ) (w : List ℕ) → AroundAsk g eb b ends i t q k w → Around g eb b ends i i q k w w k
-around-none g eb b ends i t q k w a = record { pruned = pruned-none g b q k w (a .state); fresh = λ j h l. absurd (omega arith) }
+pub around-none : {g : Graph} {eb b : ℕ} {ends : List ℕ} {i t q k : ℕ} {w : List ℕ} → AroundAsk g eb b ends i t q k w → Around g eb b ends i i q k w w k
+around-none a = record { pruned = pruned-none (a .state); fresh = λ j h l. absurd (omega arith) }
 
-module _ (g : Graph) (eb b : ℕ) (ends : List ℕ) (i₀ t q k₀ : ℕ) (w₀ : List ℕ) (a : AroundAsk g eb b ends i₀ t q k₀ w₀)
-    (i : ℕ) (w : List ℕ) (k : ℕ) (z : Around g eb b ends i₀ i q k₀ w₀ w k) (l : i₀ ≤ i) (h : i < t) where
+module _ {g : Graph} {eb b : ℕ} {ends : List ℕ} {i₀ t q k₀ : ℕ} {w₀ : List ℕ} (a : AroundAsk g eb b ends i₀ t q k₀ w₀)
+    {i : ℕ} {w : List ℕ} {k : ℕ} (z : Around g eb b ends i₀ i q k₀ w₀ w k) (l : i₀ ≤ i) (h : i < t) where
   same-number : getD w (eb + i) 0 ≡ getD w₀ (eb + i) 0
   same-number = z .pruned .aside .low (eb + i) (omega (arith, a .below))
 
@@ -37,7 +37,7 @@ module _ (g : Graph) (eb b : ℕ) (ends : List ℕ) (i₀ t q k₀ : ℕ) (w₀ 
   pub around-ask : ExamineAsk g b (other w eb ends i) q k w
   around-ask = record { state = z .pruned .state; low = around-low }
 
-  module _ (w' : List ℕ) (k' : ℕ) (e : Examined g b (other w eb ends i) q k w w' k') where
+  module _ {w' : List ℕ} {k' : ℕ} (e : Examined g b (other w eb ends i) q k w w' k') where
     less : (u : ℕ) → u < g .n → col b w u ≡ q → col b w₀ u ≡ q
     less = shrinks (g .n) b q k₀ w₀ w k (z .pruned .each)
 
@@ -61,7 +61,7 @@ module _ (g : Graph) (eb b : ℕ) (ends : List ℕ) (i₀ t q k₀ : ℕ) (w₀ 
 
     pub around-step : Around g eb b ends i₀ (i + 1) q k₀ w₀ w' k'
     around-step = record {
-      pruned = pruned-more g b q k₀ w₀ w w' k k' (z .pruned) (e .pruned);
+      pruned = pruned-more (z .pruned) (e .pruned);
       fresh = λ j m n p. elim (ℕ-discrete j i) as (λ _. Two (other w₀ eb ends j)) [
         | yes y ↦ rw y (
             let s : other w eb ends i ≡ other w₀ eb ends i = ap (λ (x : ℕ). getD ends x 0) same-number in
@@ -75,9 +75,9 @@ module _ (g : Graph) (eb b : ℕ) (ends : List ℕ) (i₀ t q k₀ : ℕ) (w₀ 
     }
 
 -- in the index of d, which is g or its reverse
-pub beside-ask : (g d : Graph) (ix b u q k : ℕ) (w : List ℕ) → Laid d ix b w → d .n ≡ g .n → u < d .n → Pruning g b q k w
+pub beside-ask : {g d : Graph} {ix b q k : ℕ} {w : List ℕ} (u : ℕ) → Laid d ix b w → d .n ≡ g .n → u < d .n → Pruning g b q k w
     → AroundAsk g (ix + d .n + 1) b (d .tgt) (getD w (ix + u) 0) (getD w (ix + u + 1) 0) q k w
-beside-ask g d ix b u q k w x e l s =
+beside-ask {g} {d} {ix} {b} {q} {k} {w} u x e l s =
     let f : getD w (ix + u) 0 ≡ start (d .src) u = x .index .offs u (omega arith) in
     let t = ends-at d ix b w x u l in
     record {
@@ -89,12 +89,12 @@ beside-ask g d ix b u q k w x e l s =
     }
 
 -- u has gone, and its neighbours in both directions were examined
-module _ (g : Graph) (b u q k : ℕ) (w : List ℕ) (a : BesideAsk g b u q k w)
-    (w₁ : List ℕ) (k₁ : ℕ) (y : Around g (0 + g .n + 1) b (g .tgt) (getD w (0 + u) 0) (getD w (0 + u + 1) 0) q k w w₁ k₁) where
+module _ {g : Graph} {b u q k : ℕ} {w : List ℕ} (a : BesideAsk g b u q k w)
+    {w₁ : List ℕ} {k₁ : ℕ} (y : Around g (0 + g .n + 1) b (g .tgt) (getD w (0 + u) 0) (getD w (0 + u + 1) 0) q k w w₁ k₁) where
   pub beside-second : AroundAsk g (revAt g + g .n + 1) b (g .src) (getD w₁ (revAt g + u) 0) (getD w₁ (revAt g + u + 1) 0) q k₁ w₁
-  beside-second = beside-ask g (rev g) (revAt g) b u q k₁ w₁ (y .pruned .state .walking .into .laid) refl (a .low) (y .pruned .state)
+  beside-second = beside-ask u (y .pruned .state .walking .into .laid) refl (a .low) (y .pruned .state)
 
-  module _ (w₂ : List ℕ) (k₂ : ℕ) (z : Around g (revAt g + g .n + 1) b (g .src) (getD w₁ (revAt g + u) 0) (getD w₁ (revAt g + u + 1) 0) q k₁ w₁ w₂ k₂) where
+  module _ {w₂ : List ℕ} {k₂ : ℕ} (z : Around g (revAt g + g .n + 1) b (g .src) (getD w₁ (revAt g + u) 0) (getD w₁ (revAt g + u + 1) 0) q k₁ w₁ w₂ k₂) where
     fore : Laid g 0 b w
     fore = a .state .walking .out .laid
 
@@ -117,14 +117,14 @@ module _ (g : Graph) (b u q k : ℕ) (w : List ℕ) (a : BesideAsk g b u q k w)
 
     pub beside-all : Beside g b u q k w w₂ k₂
     beside-all = record {
-      pruned = pruned-more g b q k w w₁ w₂ k₁ k₂ (y .pruned) (z .pruned);
+      pruned = pruned-more (y .pruned) (z .pruned);
       out = fresh-off g 0 (outAt g b) b q (revAt g) w₁ w₂ u (a .low) (λ p. a .went (less₁ u (a .low) p)) (z .pruned .state .walking .out) back
           (λ j m n p. z .fresh j (omega (arith, back .index .offs u (omega (arith, a .low)))) (omega (arith, ends-at (rev g) (revAt g) b w₁ back u (a .low))) p .0);
       into = fresh-off (rev g) (revAt g) (intoAt g b) b q 0 w w₂ u (a .low) (a .went) (z .pruned .state .walking .into) fore targets-fresh;
     }
 
 -- THE QUEUE IS DRAINED
-module _ (g : Graph) (b q : ℕ) (P : Part) (h k : ℕ) (w w' : List ℕ) (k' : ℕ) (z : Pruned g b q k w w' k') (s : Pruning g b q k w) (le : h ≤ k) where
+module _ {g : Graph} {b q : ℕ} (P : Part) (h : ℕ) {k : ℕ} {w w' : List ℕ} {k' : ℕ} (z : Pruned g b q k w w' k') (s : Pruning g b q k w) (le : h ≤ k) where
   pub all-kept : AllStanding g b q P h k w → AllStanding g b q P h k' w'
   all-kept f v m l p =
       let (o, i) = f v m l (shrinks (g .n) b q k w w' k' (z .each) v l p) in (
@@ -144,39 +144,39 @@ off-standing g ix cb b q h k w u v l p e o s = record {
       (s .inside);
 }
 
-pub drain-step : (g : Graph) (b q h k : ℕ) (w w' : List ℕ) (k' : ℕ) → Pruning g b q k w → h < k → Beside g b (que (g .n) b w h) q k w w' k'
+pub drain-step : {g : Graph} {b q k : ℕ} {w w' : List ℕ} {k' : ℕ} (h : ℕ) → Pruning g b q k w → h < k → Beside g b (que (g .n) b w h) q k w w' k'
     → AllStanding g b q all h k w → AllStanding g b q all (h + 1) k' w'
-drain-step g b q h k w w' k' s l z f v m n p =
+drain-step {g} {b} {q} {k} {w} {w'} {k'} h s l z f v m n p =
     let u = que (g .n) b w h in
-    let (o, i) = all-kept g b q all h k w w' k' (z .pruned) s (omega arith) f v m n p in
+    let (o, i) = all-kept all h (z .pruned) s (omega arith) f v m n p in
     let e = z .pruned .front h l in
     (off-standing g 0 (outAt g b) b q h k' w' u v n p e (z .out) o, off-standing (rev g) (revAt g) (intoAt g b) b q h k' w' u v n p e (z .into) i)
 
 stands-end : (g : Graph) (ix cb b q h k : ℕ) (w : List ℕ) (v : ℕ) → k ≤ h → Standing g ix cb b q h k w v → Stands g ix cb b q w v
 stands-end g ix cb b q h k w v l s = record { before = s .before; inside = ⊎-elim (λ i. i) (λ (i, m, n, c). absurd (omega arith)) (s .inside) }
 
-pub drain-end : (g : Graph) (b q h k : ℕ) (w : List ℕ) → k ≤ h → AllStanding g b q all h k w → (v : ℕ) → v < g .n → col b w v ≡ q
+pub drain-end : {g : Graph} {b q k : ℕ} {w : List ℕ} (h : ℕ) → k ≤ h → AllStanding g b q all h k w → (v : ℕ) → v < g .n → col b w v ≡ q
     → Stands g 0 (outAt g b) b q w v × Stands (rev g) (revAt g) (intoAt g b) b q w v
-drain-end g b q h k w l f v m p =
+drain-end {g} {b} {q} {k} {w} h l f v m p =
     let (o, i) = f v tt m p in
     (stands-end g 0 (outAt g b) b q h k w v l o, stands-end (rev g) (revAt g) (intoAt g b) b q h k w v l i)
 
-pub few-gone : (g : Graph) (b q k : ℕ) (w : List ℕ) → Pruning g b q k w → k ≤ g .n
-few-gone g b q k w s = omega (arith, s .room)
+pub few-gone : {g : Graph} {b q k : ℕ} {w : List ℕ} → Pruning g b q k w → k ≤ g .n
+few-gone s = omega (arith, s .room)
 
 -- THE PART IS PASSED
 -- the vertices at the places below i
 abbrev pub Before : ℕ → ℕ → List ℕ → ℕ → Part
 Before n b w i v = (j : ℕ) × (j < i) × (j < n) × (ord n b w j ≡ v)
 
-module _ (g : Graph) (b h q : ℕ) (w₀ : List ℕ) (a : PassAsk g b h q w₀) where
+module _ {g : Graph} {b h q : ℕ} {w₀ : List ℕ} (a : PassAsk g b h q w₀) where
   pub pass-none : AllStanding g b q (Before (g .n) b w₀ h) 0 0 w₀
   pass-none v (j, m, n, e) l p = absurd (a .chain .head .none j m (ap (col b w₀) e ∙ p))
 
-  pub pass-end : (k i : ℕ) (w : List ℕ) → g .n ≤ i → AllStanding g b q (Before (g .n) b w₀ i) 0 k w → AllStanding g b q all 0 k w
-  pass-end k i w m f v _ l p = let (j, n, e) = a .chain .placed .all v l in f v (j, omega arith, n, e) l p
+  pub pass-end : {k i : ℕ} {w : List ℕ} → g .n ≤ i → AllStanding g b q (Before (g .n) b w₀ i) 0 k w → AllStanding g b q all 0 k w
+  pass-end m f v _ l p = let (j, n, e) = a .chain .placed .all v l in f v (j, omega arith, n, e) l p
 
-  module _ (i : ℕ) (w : List ℕ) (k : ℕ) (c : Along (g .n) b q w₀ i) (z : Pruned g b q 0 w₀ w k) (l : i < g .n) where
+  module _ {i : ℕ} {w : List ℕ} {k : ℕ} (c : Along (g .n) b q w₀ i) (z : Pruned g b q 0 w₀ w k) (l : i < g .n) where
     pub pass-next : getD w (b + 2 * g .n + i) 0 ≡ nxt (g .n) b w₀ i
     pass-next = z .aside .mid (b + 2 * g .n + i) (omega arith) (omega arith)
 
@@ -186,13 +186,13 @@ module _ (g : Graph) (b h q : ℕ) (w₀ : List ℕ) (a : PassAsk g b h q w₀) 
     pub pass-low : getD w (b + 9 * g .n + 2 + i) 0 < g .n
     pass-low = omega (arith, pass-place, a .chain .placed .low i l)
 
-    pub pass-step : (w' : List ℕ) (k' : ℕ) → Examined g b (getD w (b + 9 * g .n + 2 + i) 0) q k w w' k'
+    pub pass-step : {w' : List ℕ} {k' : ℕ} → Examined g b (getD w (b + 9 * g .n + 2 + i) 0) q k w w' k'
         → AllStanding g b q (Before (g .n) b w₀ i) 0 k w → AllStanding g b q (Before (g .n) b w₀ (nxt (g .n) b w₀ i)) 0 k' w'
-    pass-step w' k' e f u (j, m, t, d) n p =
+    pass-step {w'} {k'} e f u (j, m, t, d) n p =
         elim (ℕ-discrete u (getD w (b + 9 * g .n + 2 + i) 0)) as (λ _. Standing g 0 (outAt g b) b q 0 k' w' u × Standing (rev g) (revAt g) (intoAt g b) b q 0 k' w' u) [
           | yes y ↦ (let (o, s) = rw (sym y) at (e .stands (rw y at p)) in
               (stands-standing g 0 (outAt g b) b q 0 k' w' u o, stands-standing (rev g) (revAt g) (intoAt g b) b q 0 k' w' u s))
           | no y ↦ (let was : own (g .n) b w₀ j ≡ q = ap (col b w₀) d ∙ shrinks (g .n) b q 0 w₀ w k (z .each) u n (shrinks (g .n) b q k w w' k' (e .pruned .each) u n p) in
-              all-kept g b q (Before (g .n) b w₀ i) 0 k w w' k' (e .pruned) (z .state) (omega arith) f u
+              all-kept (Before (g .n) b w₀ i) 0 (e .pruned) (z .state) (omega arith) f u
               (j, along-less (g .n) b q h i j w₀ (a .chain) c l m was (λ s. y (sym d ∙ ap (ord (g .n) b w₀) s ∙ sym pass-place)), t, d) n p)
         ]

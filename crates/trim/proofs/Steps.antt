@@ -96,8 +96,8 @@ module _ (g : Graph) (ix cb b q : ℕ) where
       o (ap (col b w) (sym e) ∙ r .inside)
 
 -- STEP AFTER STEP
-pub pruned-none : (g : Graph) (b q k : ℕ) (w : List ℕ) → Pruning g b q k w → Pruned g b q k w w k
-pruned-none g b q k w s = record {
+pub pruned-none : {g : Graph} {b q k : ℕ} {w : List ℕ} → Pruning g b q k w → Pruned g b q k w w k
+pruned-none {g} {b} {q} {k} {w} s = record {
   state = s;
   more = omega arith;
   each = λ v l. inl refl;
@@ -109,7 +109,7 @@ pruned-none g b q k w s = record {
   aside = aside-none (g .n) b w;
 }
 
-module _ (g : Graph) (b q k : ℕ) (w w₁ w₂ : List ℕ) (k₁ k₂ : ℕ) (s : Pruned g b q k w w₁ k₁) (t : Pruned g b q k₁ w₁ w₂ k₂) where
+module _ {g : Graph} {b q k : ℕ} {w w₁ w₂ : List ℕ} {k₁ k₂ : ℕ} (s : Pruned g b q k w w₁ k₁) (t : Pruned g b q k₁ w₁ w₂ k₂) where
   less₁ : (v : ℕ) → v < g .n → col b w₁ v ≡ q → col b w v ≡ q
   less₁ = shrinks (g .n) b q k w w₁ k₁ (s .each)
 

@@ -49,7 +49,7 @@ core-same g p p' f = rounds (g .n)
     rounds (suc k) = ap (trim g) (rounds k)
 
 -- THE STEPS
-module _ (n : ℕ) (sources targets part w₀ r₀ : List ℕ) (a : RunAsk (graph n sources targets) part w₀ r₀) where
+module _ {n : ℕ} {sources targets part w₀ r₀ : List ℕ} (a : RunAsk (graph n sources targets) part w₀ r₀) where
   abbrev g : Graph
   g = graph n sources targets
 
@@ -64,15 +64,15 @@ module _ (n : ℕ) (sources targets part w₀ r₀ : List ℕ) (a : RunAsk (grap
     room = omega (arith, a .room);
   }
 
-  module _ (w₁ : List ℕ) (o : Both sources targets n w₀ w₁) where
+  module _ {w₁ : List ℕ} (o : Both sources targets n w₀ w₁) where
     pub colour-ask : ColourAsk n b part w₁
     colour-ask = record { small = a .small; room = omega (arith, a .room, o .long); words = a .part-long }
 
-    module _ (w₂ : List ℕ) (c : Coloured n n b part w₁ w₂) where
+    module _ {w₂ : List ℕ} (c : Coloured n n b part w₁ w₂) where
       pub string-ask : StringAsk n b w₂
       string-ask = record { small = a .small; long = omega (arith, a .room, o .long, c .frame .long) }
 
-      module _ (w₃ : List ℕ) (h : ℕ) (s : Strung n b n 0 h w₂ w₃) where
+      module _ {w₃ : List ℕ} {h : ℕ} (s : Strung n b n 0 h w₂ w₃) where
         same-own : (i : ℕ) → i < n → own n b w₃ i ≡ col b w₂ i
         same-own i l = ap (col b w₃) (s .order i (omega arith) l) ∙ s .low (b + i) (omega arith)
 
@@ -128,7 +128,7 @@ module _ (n : ℕ) (sources targets part w₀ r₀ : List ℕ) (a : RunAsk (grap
         left-same : core g (hued n b n w₃) ≡ core g (members n part)
         left-same = core-same g (hued n b n w₃) (members n part) coloured
 
-        module _ (w₄ : List ℕ) (k : ℕ) (t : Trimmed g b n w₃ w₄ k) (r₁ : List ℕ) (z : Zeroed (length part) r₀ r₁) where
+        module _ {w₄ : List ℕ} {k : ℕ} (t : Trimmed g b n w₃ w₄ k) {r₁ : List ℕ} (z : Zeroed (length part) r₀ r₁) where
           pub collect-ask : CollectAsk n b w₄ r₁
           collect-ask = record {
             small = a .small;
@@ -151,8 +151,8 @@ module _ (n : ℕ) (sources targets part w₀ r₀ : List ℕ) (a : RunAsk (grap
               (λ y. let (l, e) = hued-is n b n w₄ v y in kept v l e)
               (λ y. let (l, e) = hued-is n b n w₃ v (core-of g b n w₃ .inside v y) in is-hued n b n w₄ v (l, t .stays v l y))
 
-          pub ran : (r₂ : List ℕ) → Collected n b n w₄ r₁ r₂ → Ran g part w₀ r₀ w₄ r₂
-          ran r₂ d = record {
+          pub ran : {r₂ : List ℕ} → Collected n b n w₄ r₁ r₂ → Ran g part w₀ r₀ w₄ r₂
+          ran d = record {
             long = d .long ∙ z .long;
             set = λ v. d .set v ∙ ap (λ (t : Bool). cond t 1 0) (left v ∙ ap (λ (l : List Bool). mark l v) left-same);
             numbers = t .aside .long ∙ s .long ∙ c .frame .long ∙ o .long;
@@ -198,7 +198,7 @@ module _ (c : Call) (e : trimRefusal c ≡ 0) where
   }
 
   -- the part was trimmed, what is left measured, and the working memory zeroed
-  module _ (w₁ r w ws : List ℕ) (k : ℕ) (z : Ran (graph (c .n) (c .sources) (c .targets)) (c .part) (c .numbers) (c .left) w₁ r) where
+  module _ {w₁ r : List ℕ} (z : Ran (graph (c .n) (c .sources) (c .targets)) (c .part) (c .numbers) (c .left) w₁ r) where
     low : (v : ℕ) → T (mark (leftOf c) v) → v < c .n
     low v t = lower (core-is (graph (c .n) (c .sources) (c .targets)) (members (c .n) (c .part)) (λ u y. lower y) .inside v t)
       where
@@ -221,16 +221,16 @@ module _ (c : Call) (e : trimRefusal c ≡ 0) where
         go : (m : Bool) → T m → _≡_ {A = ℕ} (cond m 1 0) 1
         go true q = refl
 
-    size : k ≡ tally (bit r) (length r * 64) → k ≡ many (mark (leftOf c)) (c .n)
-    size q = q ∙ size-below r (c .n) (length r * 64) (omega (arith, accepted .left, z .long)) above ∙ size-many r (c .n)
+    size : (k : ℕ) → k ≡ tally (bit r) (length r * 64) → k ≡ many (mark (leftOf c)) (c .n)
+    size k q = q ∙ size-below r (c .n) (length r * 64) (omega (arith, accepted .left, z .long)) above ∙ size-many r (c .n)
         ∙ omega (arith, many-mono (members (c .n) r) (mark (leftOf c)) (c .n) is-member, many-mono (mark (leftOf c)) (members (c .n) r) (c .n) member-is)
 
-    pub finished : k ≡ tally (bit r) (length r * 64) → Zeroed (numbersNeeded (c .n) (length (c .sources))) w₁ w → Zeroed (wordsNeeded (c .n)) (c .words) ws → Finished c r w ws k
-    finished q x y = record {
+    pub finished : {w ws : List ℕ} {k : ℕ} → k ≡ tally (bit r) (length r * 64) → Zeroed (numbersNeeded (c .n) (length (c .sources))) w₁ w → Zeroed (wordsNeeded (c .n)) (c .words) ws → Finished c r w ws k
+    finished {k = k} q x y = record {
       long = z .long;
       set = z .set;
       above = above;
-      vertices = size q;
+      vertices = size k q;
       numbers = record { long = x .long ∙ z .numbers; front = x .front; rest = λ j l. x .rest j l ∙ z .rest j l };
       words = y;
     }

@@ -84,7 +84,7 @@ returns-2 c = let at-zero-words = c .before .before in
     let at-run = at-size .before .before .before .before .before .before in
     let at-if1 = at-run .before .before .before in
     let e = sym (at-if1 .before .refusal .ensures) ∙ at-if1 .if1 .left in
-    record { refusal = sym (at-if1 .if1 .left) ∙ at-if1 .before .refusal .ensures; gives = finished _ e _ _ _ _ _ (at-run .run .ensures) (at-size .size .ensures) (at-zero-numbers .zero-numbers .ensures) (at-zero-words .zero-words .ensures) }
+    record { refusal = sym (at-if1 .if1 .left) ∙ at-if1 .before .refusal .ensures; gives = finished _ e (at-run .run .ensures) (at-size .size .ensures) (at-zero-numbers .zero-numbers .ensures) (at-zero-words .zero-words .ensures) }
 
 pub trim-spec : {M : Type 1} → statement M
 trim-spec =

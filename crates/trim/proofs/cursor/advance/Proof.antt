@@ -2,6 +2,7 @@ use mathlib.Core.Path.{refl}
 use Prim.Native.Nat.{_+_}
 use native.Mathlib.Omega.{arith}
 use borrow.Author.Needs.{needs}
+use Rattle.graph.specs.Refusal.{given}
 use Rattle.trim.proofs.cursor.advance.Statement.{statement}
 use Rattle.trim.proofs.cursor.advance.Tie as tie
 

@@ -1,5 +1,4 @@
 use borrow.Author.Needs.{needs}
-use Rattle.graph.specs.Graph.{graph}
 use Rattle.trim.proofs.Ties.{tied-first, tied-none, tied-second, tied-all}
 use Rattle.trim.proofs.cursor.tied.Statement.{statement}
 use Rattle.trim.proofs.cursor.tied.Tie as tie
@@ -14,13 +13,15 @@ add-advance-2 : tie.Need-add-advance-2
 add-advance-2 c = search needs
 
 advance-requires : tie.Need-advance-requires
-advance-requires c κs = let s = c .before .before .before .before in tied-first (graph (s .args .n) (s .args .sources .now) (s .args .targets .now)) (s .args .b) (s .args .v) (s .args .q) (s .args .w .now) (s .pre)
+advance-requires c κs = let s = c .before .before .before .before in tied-first (s .pre)
 
 same-length : tie.Need-same-length
 same-length c = search needs
 
 returns : tie.Need-returns
-returns c = let s = c .before .before .before .before .before .before .before .before in tied-none (graph (s .args .n) (s .args .sources .now) (s .args .targets .now)) (s .args .b) (s .args .v) (s .args .q) (s .args .w .now) (s .pre) _ _ (c .before .before .before .advance .ensures) (c .if1 .taken)
+returns c = let at-advance = c .before .before .before in
+    let s = at-advance .before .before .before .before .before in
+    tied-none (s .pre) (at-advance .advance .ensures) (c .if1 .taken)
 
 add-advance-3 : tie.Need-add-advance-3
 add-advance-3 c = search needs
@@ -38,13 +39,17 @@ add-advance-6 : tie.Need-add-advance-6
 add-advance-6 c = search needs
 
 advance-requires-2 : tie.Need-advance-requires-2
-advance-requires-2 c κs = let s = c .before .before .before .before .before .before .before .before .before in tied-second (graph (s .args .n) (s .args .sources .now) (s .args .targets .now)) (s .args .b) (s .args .v) (s .args .q) (s .args .w .now) (s .pre) _ _ (c .before .before .before .before .advance .ensures)
+advance-requires-2 c κs = let at-advance = c .before .before .before .before in
+    let s = at-advance .before .before .before .before .before in
+    tied-second (s .pre) (at-advance .advance .ensures)
 
 same-length-2 : tie.Need-same-length-2
 same-length-2 c = search needs
 
 returns-2 : tie.Need-returns-2
-returns-2 c = let s = c .before .before .before .before .before .before .before .before .before .before .before .before in tied-all (graph (s .args .n) (s .args .sources .now) (s .args .targets .now)) (s .args .b) (s .args .v) (s .args .q) (s .args .w .now) (s .pre) _ _ (c .before .before .before .before .before .before .before .advance .ensures) _ _ (c .before .before .advance2 .ensures) (c .before .before .before .before .if1 .left)
+returns-2 c = let at-advance = c .before .before .before .before .before .before .before in
+    let s = at-advance .before .before .before .before .before in
+    tied-all (s .pre) (at-advance .advance .ensures) (c .before .before .advance2 .ensures) (c .before .before .before .before .if1 .left)
 
 pub tied-spec : {M : Type 1} → statement M
 tied-spec =

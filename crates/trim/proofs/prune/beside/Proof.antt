@@ -3,7 +3,7 @@ use Prim.Native.Nat.{_+_}
 use native.Mathlib.Omega.{arith}
 use lib.ListN.{length}
 use borrow.Author.Needs.{needs}
-use Rattle.graph.specs.Graph.{graph}
+use Rattle.graph.specs.Refusal.{given}
 use Rattle.trim.proofs.Rounds.{beside-ask, beside-second, beside-all}
 use Rattle.trim.proofs.prune.beside.Statement.{statement}
 use Rattle.trim.proofs.prune.beside.Tie as tie
@@ -42,7 +42,7 @@ add-around-2 : tie.Need-add-around-2
 add-around-2 c = search needs
 
 around-requires : tie.Need-around-requires
-around-requires c κs = let s = c .before .before .before .before .before .before in beside-ask (graph (s .args .n) (s .args .sources .now) (s .args .targets .now)) (graph (s .args .n) (s .args .sources .now) (s .args .targets .now)) 0 (s .args .b) (s .args .u) (s .args .q) (s .args .k) (s .args .w .now) (s .pre .state .walking .out .laid) refl (s .pre .low) (s .pre .state)
+around-requires c κs = let s = c .before .before .before .before .before .before in beside-ask (s .args .u) (s .pre .state .walking .out .laid) refl (s .pre .low) (s .pre .state)
 
 add-rx : tie.Need-add-rx
 add-rx c = search needs
@@ -84,13 +84,17 @@ add-around-4 : tie.Need-add-around-4
 add-around-4 c = search needs
 
 around-requires-2 : tie.Need-around-requires-2
-around-requires-2 c κs = let s = c .before .before .before .before .before .before .before .before .before .before .before .before in beside-second (graph (s .args .n) (s .args .sources .now) (s .args .targets .now)) (s .args .b) (s .args .u) (s .args .q) (s .args .k) (s .args .w .now) (s .pre) _ _ (c .before .before .before .before .before .around .ensures)
+around-requires-2 c κs = let at-around = c .before .before .before .before .before in
+    let s = at-around .before .before .before .before .before .before .before in
+    beside-second (s .pre) (at-around .around .ensures)
 
 same-length : tie.Need-same-length
 same-length c = search needs
 
 returns : tie.Need-returns
-returns c = let s = c .before .before .before .before .before .before .before .before .before .before .before .before .before .before .before in beside-all (graph (s .args .n) (s .args .sources .now) (s .args .targets .now)) (s .args .b) (s .args .u) (s .args .q) (s .args .k) (s .args .w .now) (s .pre) _ _ (c .before .before .before .before .before .before .before .before .around .ensures) _ _ (c .before .before .around2 .ensures)
+returns c = let at-around = c .before .before .before .before .before .before .before .before in
+    let s = at-around .before .before .before .before .before .before .before in
+    beside-all (s .pre) (at-around .around .ensures) (c .before .before .around2 .ensures)
 
 pub beside-spec : {M : Type 1} → statement M
 beside-spec =

@@ -2,7 +2,6 @@ use Prim.Native.Nat.{_≤_, _-_}
 use native.Mathlib.Omega.{arith}
 use Rattle.graph.specs.Graph.{graph, all}
 use Rattle.trim.specs.Prune.{Pruned, AllStanding}
-use Rattle.trim.specs.Prune.{Pruned}
 use Rattle.trim.proofs.Steps.{pruned-none, pruned-more}
 use Rattle.trim.proofs.Rounds.{drain-step, drain-end, few-gone}
 use Rattle.trim.proofs.prune.drain.Statement.{statement}
@@ -15,40 +14,60 @@ abbrev μ-loop : tie.MeasureT-loop
 μ-loop sources targets n w₀ b q k0 h₀ k₀ w h k = n - h
 
 loop-holds : tie.Need-loop-holds Inv-loop μ-loop
-loop-holds c = let s = c .before .before .before in (omega arith, pruned-none (graph (s .args .n) (s .args .sources .now) (s .args .targets .now)) (s .args .b) (s .args .q) (s .args .k0) (s .args .w .now) (s .pre .state), s .pre .standing)
+loop-holds c = let s = c .before .before .before in (omega arith, pruned-none (s .pre .state), s .pre .standing)
 
 add-u : tie.Need-add-u Inv-loop μ-loop
-add-u c = let s = c .before .before .before .before .before in let l = c .before .loop in omega (arith, l .inv .1 .state .walking .long, few-gone (graph (s .args .n) (s .args .sources .now) (s .args .targets .now)) (s .args .b) (s .args .q) (l .k) (l .w) (l .inv .1 .state), l .inv .1 .state .walking .small, c .loop-test .taken)
+add-u c = let l = c .before .loop in
+    let z = l .inv .1 .state in
+    omega (arith, z .walking, few-gone z, c .loop-test .taken)
 
 add-u-2 : tie.Need-add-u-2 Inv-loop μ-loop
-add-u-2 c = let s = c .before .before .before .before .before in let l = c .before .loop in omega (arith, l .inv .1 .state .walking .long, few-gone (graph (s .args .n) (s .args .sources .now) (s .args .targets .now)) (s .args .b) (s .args .q) (l .k) (l .w) (l .inv .1 .state), l .inv .1 .state .walking .small, c .loop-test .taken)
+add-u-2 c = let l = c .before .loop in
+    let z = l .inv .1 .state in
+    omega (arith, z .walking, few-gone z, c .loop-test .taken)
 
 mul-u : tie.Need-mul-u Inv-loop μ-loop
-mul-u c = let s = c .before .before .before .before .before in let l = c .before .loop in omega (arith, l .inv .1 .state .walking .long, few-gone (graph (s .args .n) (s .args .sources .now) (s .args .targets .now)) (s .args .b) (s .args .q) (l .k) (l .w) (l .inv .1 .state), l .inv .1 .state .walking .small, c .loop-test .taken)
+mul-u c = let l = c .before .loop in
+    let z = l .inv .1 .state in
+    omega (arith, z .walking, few-gone z, c .loop-test .taken)
 
 slice-read-u : tie.Need-slice-read-u Inv-loop μ-loop
-slice-read-u c = let s = c .before .before .before .before .before .before in let l = c .before .before .loop in omega (arith, l .inv .1 .state .walking .long, few-gone (graph (s .args .n) (s .args .sources .now) (s .args .targets .now)) (s .args .b) (s .args .q) (l .k) (l .w) (l .inv .1 .state), l .inv .1 .state .walking .small, c .before .loop-test .taken)
+slice-read-u c = let l = c .before .before .loop in
+    let z = l .inv .1 .state in
+    omega (arith, z .walking, few-gone z, c .before .loop-test .taken)
 
 cast-u : tie.Need-cast-u Inv-loop μ-loop
-cast-u c = let s = c .before .before .before .before .before .before in let l = c .before .before .loop in omega (arith, l .inv .1 .state .gone (l .h) (c .before .loop-test .taken) .0, l .inv .1 .state .walking .small)
+cast-u c = let l = c .before .before .loop in
+    let z = l .inv .1 .state in
+    omega (arith, z .gone (l .h) (c .before .loop-test .taken) .0, z .walking .small)
 
 beside-requires : tie.Need-beside-requires Inv-loop μ-loop
-beside-requires c κs = let s = c .before .before .before .before .before .before .before in let l = c .before .before .before .loop in let (m, f) = l .inv .1 .state .gone (l .h) (c .before .before .loop-test .taken) in record { state = l .inv .1 .state; low = m; went = f }
+beside-requires c κs = let l = c .before .before .before .loop in
+    let z = l .inv .1 .state in
+    let (m, f) = z .gone (l .h) (c .before .before .loop-test .taken) in
+    record { state = z; low = m; went = f }
 
 add-h : tie.Need-add-h Inv-loop μ-loop
-add-h c = let s = c .before .before .before .before .before .before .before .before .before .before in let l = c .before .before .before .before .before .before .loop in omega (arith, l .inv .1 .state .walking .long, few-gone (graph (s .args .n) (s .args .sources .now) (s .args .targets .now)) (s .args .b) (s .args .q) (l .k) (l .w) (l .inv .1 .state), l .inv .1 .state .walking .small, c .before .before .before .before .before .loop-test .taken)
+add-h c = let l = c .before .before .before .before .before .before .loop in
+    let z = l .inv .1 .state in
+    omega (arith, z .walking, few-gone z, c .before .before .before .before .before .loop-test .taken)
 
 loop-less : tie.Need-loop-less Inv-loop μ-loop
-loop-less c = let s = c .before .before .before .before .before .before .before .before .before .before in let l = c .before .before .before .before .before .before .loop in omega (arith, l .inv .1 .state .walking .long, few-gone (graph (s .args .n) (s .args .sources .now) (s .args .targets .now)) (s .args .b) (s .args .q) (l .k) (l .w) (l .inv .1 .state), l .inv .1 .state .walking .small, c .before .before .before .before .before .loop-test .taken)
+loop-less c = let l = c .before .before .before .before .before .before .loop in
+    let z = l .inv .1 .state in
+    omega (arith, z .walking, few-gone z, c .before .before .before .before .before .loop-test .taken)
 
 loop-again : tie.Need-loop-again Inv-loop μ-loop
-loop-again c = let s = c .before .before .before .before .before .before .before .before .before .before in let l = c .before .before .before .before .before .before .loop in (omega (arith, c .before .before .beside .ensures .pruned .more, c .before .before .before .before .before .loop-test .taken), pruned-more (graph (s .args .n) (s .args .sources .now) (s .args .targets .now)) (s .args .b) (s .args .q) (s .args .k0) (s .args .w .now) (l .w) _ (l .k) _ (l .inv .1) (c .before .before .beside .ensures .pruned), drain-step (graph (s .args .n) (s .args .sources .now) (s .args .targets .now)) (s .args .b) (s .args .q) (l .h) (l .k) (l .w) _ _ (l .inv .1 .state) (c .before .before .before .before .before .loop-test .taken) (c .before .before .beside .ensures) (l .inv .2))
+loop-again c = let l = c .before .before .before .before .before .before .loop in
+    let h = c .before .before .before .before .before .loop-test .taken in
+    let z = c .before .before .beside .ensures in
+    (omega (arith, z .pruned .more, h), pruned-more (l .inv .1) (z .pruned), drain-step (l .h) (l .inv .1 .state) h z (l .inv .2))
 
 same-length : tie.Need-same-length Inv-loop μ-loop
 same-length c = c .before .loop .inv .1 .aside .long
 
 returns : tie.Need-returns Inv-loop μ-loop
-returns c = let s = c .before .before .before .before .before in let l = c .before .loop in record { pruned = l .inv .1; stands = drain-end (graph (s .args .n) (s .args .sources .now) (s .args .targets .now)) (s .args .b) (s .args .q) (l .h) (l .k) (l .w) (omega arith) (l .inv .2) }
+returns c = let l = c .before .loop in record { pruned = l .inv .1; stands = drain-end (l .h) (omega arith) (l .inv .2) }
 
 pub drain-spec : {M : Type 1} → statement M
 drain-spec =

@@ -1,7 +1,6 @@
 use native.Mathlib.Omega.{arith}
 use lib.ListN.{length-set}
 use borrow.Author.Needs.{needs}
-use Rattle.graph.specs.Graph.{graph}
 use Rattle.trim.proofs.Goes.{examine-skip, k-low, examine-stay, examine-go}
 use Rattle.trim.proofs.prune.examine.Statement.{statement}
 use Rattle.trim.proofs.prune.examine.Tie as tie
@@ -16,7 +15,7 @@ slice-read-if1 : tie.Need-slice-read-if1
 slice-read-if1 c = search needs
 
 returns : tie.Need-returns
-returns c = let s = c .before .before .before .before .before in examine-skip (graph (s .args .n) (s .args .sources .now) (s .args .targets .now)) (s .args .b) (s .args .v) (s .args .q) (s .args .k) (s .args .w .now) (s .pre) (c .if1 .taken)
+returns c = let s = c .before .before .before .before .before in examine-skip (s .pre) (c .if1 .taken)
 
 tied-requires : tie.Need-tied-requires
 tied-requires c κs = search needs
@@ -25,7 +24,10 @@ same-length : tie.Need-same-length
 same-length c = search needs
 
 returns-2 : tie.Need-returns-2
-returns-2 c = let s = c .before .before .before .before .before .before .before .before .before .before in examine-stay (graph (s .args .n) (s .args .sources .now) (s .args .targets .now)) (s .args .b) (s .args .v) (s .args .q) (s .args .k) (s .args .w .now) (s .pre) (c .before .before .before .before .before .if1 .left) _ _ (c .before .before .before .tied .ensures) (c .if2 .taken)
+returns-2 c = let at-tied = c .before .before .before in
+    let at-if1 = at-tied .before .before in
+    let s = at-if1 .before .before .before .before .before in
+    examine-stay (s .pre) (at-if1 .if1 .left) (at-tied .tied .ensures) (c .if2 .taken)
 
 cast-w : tie.Need-cast-w
 cast-w c = search needs
@@ -52,7 +54,10 @@ mul-w-2 : tie.Need-mul-w-2
 mul-w-2 c = search needs
 
 slice-write-w-2 : tie.Need-slice-write-w-2
-slice-write-w-2 c = let s = c .before .before .before .before .before .before .before .before .before .before in simp length-set (omega (arith, k-low (graph (s .args .n) (s .args .sources .now) (s .args .targets .now)) (s .args .b) (s .args .v) (s .args .q) (s .args .k) (s .args .w .now) (s .pre) (c .before .before .before .before .before .if1 .left), s .pre .state .walking .long, c .before .before .before .tied .ensures .long))
+slice-write-w-2 c = let at-tied = c .before .before .before in
+    let at-if1 = at-tied .before .before in
+    let s = at-if1 .before .before .before .before .before in
+    simp length-set (omega (arith, k-low (s .pre) (at-if1 .if1 .left), s .pre .state .walking .long, at-tied .tied .ensures .long))
 
 add-result : tie.Need-add-result
 add-result c = search needs
@@ -61,7 +66,10 @@ same-length-2 : tie.Need-same-length-2
 same-length-2 c = search needs
 
 returns-3 : tie.Need-returns-3
-returns-3 c = let s = c .before .before .before .before .before .before .before .before .before .before in examine-go (graph (s .args .n) (s .args .sources .now) (s .args .targets .now)) (s .args .b) (s .args .v) (s .args .q) (s .args .k) (s .args .w .now) (s .pre) (c .before .before .before .before .before .if1 .left) _ _ (c .before .before .before .tied .ensures) (c .if2 .left)
+returns-3 c = let at-tied = c .before .before .before in
+    let at-if1 = at-tied .before .before in
+    let s = at-if1 .before .before .before .before .before in
+    examine-go (s .pre) (at-if1 .if1 .left) (at-tied .tied .ensures) (c .if2 .left)
 
 pub examine-spec : {M : Type 1} → statement M
 examine-spec =

@@ -13,7 +13,7 @@ abbrev μ-loop : tie.MeasureT-loop
 μ-loop n w b q left₀ v₀ left v = n - v
 
 loop-holds : tie.Need-loop-holds Inv-loop μ-loop
-loop-holds c = let s = c .before .before in (omega arith, collected-none (s .args .b) (s .args .q) (s .args .w .now) (s .args .left .now) (s .pre .empty))
+loop-holds c = let s = c .before .before in (omega arith, collected-none (s .pre .empty))
 
 keep-requires : tie.Need-keep-requires Inv-loop μ-loop
 keep-requires c κs = let s = c .before .before .before .before .before in let l = c .before .before .loop in record { room = omega (arith, s .pre .room, c .before .loop-test .taken); words = omega (arith, s .pre .words, l .inv .1 .long, c .before .loop-test .taken) }
@@ -25,7 +25,7 @@ loop-less : tie.Need-loop-less Inv-loop μ-loop
 loop-less c = omega arith
 
 loop-again : tie.Need-loop-again Inv-loop μ-loop
-loop-again c = let s = c .before .before .before .before .before .before .before .before in let l = c .before .before .before .before .before .loop in (omega arith, collected-more (s .args .b) (s .args .q) (s .args .w .now) (s .args .left .now) (l .v) (l .left) _ (c .before .before .keep .ensures) (l .inv .1))
+loop-again c = let l = c .before .before .before .before .before .loop in (omega arith, collected-more (c .before .before .keep .ensures) (l .inv .1))
 
 same-length : tie.Need-same-length Inv-loop μ-loop
 same-length c = c .before .loop .inv .1 .long

@@ -16,25 +16,25 @@ cast-q : tie.Need-cast-q
 cast-q c = search needs
 
 both-requires : tie.Need-both-requires
-both-requires c κs = let s = c .before .before .before .before .before .before in both-ask (s .args .n) (s .args .sources .now) (s .args .targets .now) (s .args .part .now) (s .args .w .now) (s .args .left .now) (s .pre)
+both-requires c κs = let s = c .before .before .before .before .before .before in both-ask (s .pre)
 
 colour-requires : tie.Need-colour-requires
 colour-requires c κs = let at-both = c .before .before .before in
     let s = at-both .before .before .before .before .before .before .before in
-    colour-ask (s .args .n) (s .args .sources .now) (s .args .targets .now) (s .args .part .now) (s .args .w .now) (s .args .left .now) (s .pre) _ (at-both .both .ensures)
+    colour-ask (s .pre) (at-both .both .ensures)
 
 string-requires : tie.Need-string-requires
 string-requires c κs = let at-colour = c .before .before .before in
     let at-both = at-colour .before .before .before .before in
     let s = at-both .before .before .before .before .before .before .before in
-    string-ask (s .args .n) (s .args .sources .now) (s .args .targets .now) (s .args .part .now) (s .args .w .now) (s .args .left .now) (s .pre) _ (at-both .both .ensures) _ (at-colour .colour .ensures)
+    string-ask (s .pre) (at-both .both .ensures) (at-colour .colour .ensures)
 
 prune-requires : tie.Need-prune-requires
 prune-requires c κs = let at-string = c .before .before .before in
     let at-colour = at-string .before .before .before .before in
     let at-both = at-colour .before .before .before .before in
     let s = at-both .before .before .before .before .before .before .before in
-    trim-ask (s .args .n) (s .args .sources .now) (s .args .targets .now) (s .args .part .now) (s .args .w .now) (s .args .left .now) (s .pre) _ (at-both .both .ensures) _ (at-colour .colour .ensures) _ _ (at-string .string .ensures)
+    trim-ask (s .pre) (at-both .both .ensures) (at-colour .colour .ensures) (at-string .string .ensures)
 
 zero-words-requires : tie.Need-zero-words-requires
 zero-words-requires c κs = search needs
@@ -46,7 +46,7 @@ collect-requires c κs = let at-zero = c .before .before .before .before in
     let at-colour = at-string .before .before .before .before in
     let at-both = at-colour .before .before .before .before in
     let s = at-both .before .before .before .before .before .before .before in
-    collect-ask (s .args .n) (s .args .sources .now) (s .args .targets .now) (s .args .part .now) (s .args .w .now) (s .args .left .now) (s .pre) _ (at-both .both .ensures) _ (at-colour .colour .ensures) _ _ (at-string .string .ensures) _ _ (at-prune .prune .ensures) _ (at-zero .zero-words .ensures)
+    collect-ask (s .pre) (at-both .both .ensures) (at-colour .colour .ensures) (at-string .string .ensures) (at-prune .prune .ensures) (at-zero .zero-words .ensures)
 
 same-length : tie.Need-same-length
 same-length c = search needs
@@ -62,7 +62,7 @@ returns c = let at-collect = c .before .before in
     let at-colour = at-string .before .before .before .before in
     let at-both = at-colour .before .before .before .before in
     let s = at-both .before .before .before .before .before .before .before in
-    ran (s .args .n) (s .args .sources .now) (s .args .targets .now) (s .args .part .now) (s .args .w .now) (s .args .left .now) (s .pre) _ (at-both .both .ensures) _ (at-colour .colour .ensures) _ _ (at-string .string .ensures) _ _ (at-prune .prune .ensures) _ (at-zero .zero-words .ensures) _ (at-collect .collect .ensures)
+    ran (s .pre) (at-both .both .ensures) (at-colour .colour .ensures) (at-string .string .ensures) (at-prune .prune .ensures) (at-zero .zero-words .ensures) (at-collect .collect .ensures)
 
 pub run-spec : {M : Type 1} → statement M
 run-spec =
