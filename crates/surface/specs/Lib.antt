@@ -1,0 +1,6 @@
+pub mod Search
+pub mod Path
+pub mod Check
+pub mod Summary
+pub mod Read
+pub mod Labels

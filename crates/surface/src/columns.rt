@@ -1,0 +1,71 @@
+// On label columns and certificates: the checker and the summary.
+ghost use mathlib.Core.Path.{_≡_};
+ghost use Rattle.checker.specs.Promise.{call};
+ghost use Rattle.surface.specs.Check.{Checked};
+ghost use Rattle.surface.specs.Summary.{Summed};
+
+#[no_mangle]
+pub extern "C" fn tinoweala_check_certificate(
+    n: usize,
+    sources: &[u32],
+    targets: &[u32],
+    label: &[u32],
+    rank: &[u32],
+    in_edge: &[u32],
+    in_distance: &[u32],
+    out_edge: &[u32],
+    out_distance: &[u32],
+    check: &mut u32,
+    place: &mut usize,
+) -> u32
+    ensures { λ k. ⌜ Checked (call n (now (sources .entry)) (now (targets .entry)) (now (label .entry)) (now (rank .entry)) (now («in_edge» .entry)) (now («in_distance» .entry)) (now («out_edge» .entry)) (now («out_distance» .entry))) (now (check .entry)) (now (place .entry)) (k, now (check .exit), now (place .exit)) ⌝ }
+{
+    match checker::check(
+        n,
+        sources,
+        targets,
+        label,
+        rank,
+        in_edge,
+        in_distance,
+        out_edge,
+        out_distance,
+    ) {
+        checker::Verdict::Refused(k) => k,
+        checker::Verdict::Failed { check: c, place: p } => {
+            *check = c;
+            *place = p;
+            0
+        }
+        checker::Verdict::Accepted => {
+            *check = 0;
+            *place = 0;
+            0
+        }
+    }
+}
+
+#[no_mangle]
+pub extern "C" fn tinoweala_summary(
+    n: usize,
+    label: &[u32],
+    own: &mut u32,
+    rings: &mut u32,
+    largest: &mut u32,
+) -> u32
+    ensures { λ k. ⌜ Summed (record { n = n; label = now (label .entry) }) (now (own .entry)) (now (rings .entry)) (now (largest .entry)) (k, now (own .exit), now (rings .exit), now (largest .exit)) ⌝ }
+{
+    match summary::summary(n, label) {
+        summary::Answer::Refused(k) => k,
+        summary::Answer::Done {
+            own: o,
+            rings: r,
+            largest: l,
+        } => {
+            *own = o;
+            *rings = r;
+            *largest = l;
+            0
+        }
+    }
+}

@@ -1,0 +1,160 @@
+/*
+ * Tinoweala for C and C++: groups of vertices that reach each other, at full size (65,536 vertices, 262,144 edges).
+ *
+ * Vertices are 0 to n - 1. The edge table is two columns of 32-bit numbers, sources and targets; edge e leads from sources[e] to
+ * targets[e]. A set of vertices is 64-bit words, tinoweala_set_words(n) of them: vertex v is bit v % 64 of word v / 64. Bits at n and above
+ * are disregarded when read and zero when written.
+ *
+ * What holds of every function here:
+ * - Any arguments may be given. A slice is a pointer and the number of its entries, in this order; a null pointer with 0 entries is an empty slice. Every
+ *   other pointer points at that many entries of its type, aligned as that type is. A single number that is lent (as *vertices) is not null.
+ * - No memory that a function writes may overlap any other memory that it is given: of such calls nothing is promised.
+ * - The result is TINOWEALA_DONE (0) or the number of the refusal. Each function names the numbers that it tests, in this order: where several apply,
+ *   it gives the first. A refusal changes nothing that was lent, neither slices nor single numbers, but that 10, 11 and 12 leave the
+ *   needed front of the working memory zero.
+ * - Working memory is two slices, numbers and words, at least tinoweala_numbers(n, m) and tinoweala_words(n) long; it may hold anything. After a
+ *   completed call this front is zero, and what lies beyond it is as it was.
+ * - Nothing is allocated, nothing is kept from one call to the next, and a call works on its arguments alone.
+ */
+#ifndef TINOWEALA_H
+#define TINOWEALA_H
+
+#include <stdbool.h>
+#include <stddef.h>
+#include <stdint.h>
+
+#ifdef __cplusplus
+extern "C" {
+#endif
+
+/* The result of a call. */
+enum tinoweala_result {
+    TINOWEALA_DONE = 0,
+    TINOWEALA_TOO_MANY_VERTICES = 1,  /* n above 65,536 */
+    TINOWEALA_UNEVEN_COLUMNS = 2,     /* sources and targets differ in length */
+    TINOWEALA_TOO_MANY_EDGES = 3,     /* more than 262,144 edges */
+    TINOWEALA_END_OUTSIDE = 4,        /* an edge end is not below n */
+    TINOWEALA_WRONG_LENGTH = 5,       /* a column not n long, a set not tinoweala_set_words(n) long, table slices shorter than the text's edges */
+    TINOWEALA_MEMORY_SHORT = 6,       /* working numbers or working words too few */
+    TINOWEALA_LIST_SHORT = 7,         /* fewer than n records in the list of waiting slices */
+    TINOWEALA_UNKNOWN_CHOICE = 8,     /* method above 1, pivot kind above 2 or slice order above 1 */
+    TINOWEALA_VERTEX_OUTSIDE = 9,     /* a vertex asked about, or a label in the summary, is not below n */
+    TINOWEALA_WRONG_LABELS = 10,      /* the label column is not the right one */
+    TINOWEALA_NO_PATH = 11,           /* no path from u to v */
+    TINOWEALA_ROOM_SHORT = 12,        /* room for the result is less than its length */
+    TINOWEALA_FIRST_LINE_FAULTY = 13, /* text: first line faulty or missing */
+    TINOWEALA_SIZE_LINE_FAULTY = 14,  /* text: size line faulty or missing */
+    TINOWEALA_ENTRY_FAULTY = 15,      /* text: an entry line faulty, or too few or too many entries */
+    TINOWEALA_INPUT_TOO_LONG = 16     /* the program's input is over 65,536 bytes */
+};
+
+#define TINOWEALA_MOST_VERTICES 65536u
+#define TINOWEALA_MOST_EDGES 262144u
+#define TINOWEALA_NO_EDGE UINT32_C(4294967295) /* stands in an edge column where there is no edge */
+
+/* The number of 64-bit words of a set of vertices. */
+static inline size_t tinoweala_set_words(size_t n) {
+    return n / 64 + (n % 64 != 0);
+}
+
+/* The working numbers that a call on n vertices and m edges needs. */
+static inline size_t tinoweala_numbers(size_t n, size_t m) {
+    return 12 * n + 2 * m + 16;
+}
+
+/* The working words that a call on n vertices needs. */
+static inline size_t tinoweala_words(size_t n) {
+    return 6 * tinoweala_set_words(n);
+}
+
+/* The table check: 1, 2, 3, 4. */
+uint32_t tinoweala_check_table(
+    size_t n,
+    const uint32_t *sources, size_t sources_len,
+    const uint32_t *targets, size_t targets_len);
+
+/*
+ * The search: 1, 2, 3, 4, 5, 6.
+ * reached becomes the set of permitted vertices reached from permitted starts by chains that stay permitted, *vertices its size. *edges becomes the number of edges whose
+ * source was reached, targets outside included; backward, along the turned edges, the number whose target was reached.
+ * starts, permitted and reached are sets, else 5.
+ */
+uint32_t tinoweala_search(
+    size_t n,
+    const uint32_t *sources, size_t sources_len,
+    const uint32_t *targets, size_t targets_len,
+    const uint64_t *starts, size_t starts_len,
+    const uint64_t *permitted, size_t permitted_len,
+    bool backward,
+    uint64_t *reached, size_t reached_len,
+    uint32_t *numbers, size_t numbers_len,
+    uint64_t *words, size_t words_len,
+    size_t *vertices, size_t *edges);
+
+/*
+ * The shortest path: 1, 2, 3, 4, 6, 9, 11, 12.
+ * The front of room becomes the edge numbers of the shortest path from u to v in walking order, *length their number; the rest of room is as it was. Among
+ * shortest paths: walk back from v, each time by the smallest edge number whose source is one step nearer to u. u = v has length 0.
+ */
+uint32_t tinoweala_path(
+    size_t n,
+    const uint32_t *sources, size_t sources_len,
+    const uint32_t *targets, size_t targets_len,
+    size_t u, size_t v,
+    uint32_t *room, size_t room_len,
+    uint32_t *numbers, size_t numbers_len,
+    uint64_t *words, size_t words_len,
+    size_t *length);
+
+/*
+ * The checker of a certificate: 1, 2, 3, 4, 5. It gets no working memory.
+ * Done with *check = 0 and *place = 0: accepted, and label is then the right label column. Done with *check from 1 to 5: the first failed check, and *place its
+ * vertex, for check 5 its edge.
+ */
+uint32_t tinoweala_check_certificate(
+    size_t n,
+    const uint32_t *sources, size_t sources_len,
+    const uint32_t *targets, size_t targets_len,
+    const uint32_t *label, size_t label_len,
+    const uint32_t *rank, size_t rank_len,
+    const uint32_t *in_edge, size_t in_edge_len,
+    const uint32_t *in_distance, size_t in_distance_len,
+    const uint32_t *out_edge, size_t out_edge_len,
+    const uint32_t *out_distance, size_t out_distance_len,
+    uint32_t *check, size_t *place);
+
+/*
+ * The summary of a label column: 1, 5, 9. It gets no working memory.
+ * *own becomes the number of vertices that are their own label, *rings the number of labels shared by two or more vertices, *largest the largest number of
+ * vertices that share one label. Nothing else is tested: a column that is wrong as a labelling is counted as it is.
+ */
+uint32_t tinoweala_summary(
+    size_t n,
+    const uint32_t *label, size_t label_len,
+    uint32_t *own, uint32_t *rings, uint32_t *largest);
+
+/*
+ * The reader of a Matrix Market text: 13, 14, 1, 3, 5, 15, the first faulty line decides.
+ * The fronts of sources and targets become the edges of the text, their other places are as they were; *n becomes the number of vertices, *edges that of edges.
+ * 5: one of the two slices is shorter than the edge count that the size line states.
+ */
+uint32_t tinoweala_read_text(
+    const uint8_t *text, size_t text_len,
+    uint32_t *sources, size_t sources_len,
+    uint32_t *targets, size_t targets_len,
+    size_t *n, size_t *edges);
+
+/*
+ * The writer of a label file: 1 (the column is longer than 65,536), 12.
+ * The front of out becomes the file: the banner, the number of labels and 1, then each label plus one, a line each; *bytes is its length, and the rest of out is as it was.
+ */
+uint32_t tinoweala_write_labels(
+    const uint32_t *label, size_t label_len,
+    uint8_t *out, size_t out_len,
+    size_t *bytes);
+
+#ifdef __cplusplus
+}
+#endif
+
+#endif
