@@ -1,0 +1,219 @@
+-- One slice: the seeds are sown, what reaches them is painted, its successors are marked.
+use Prim.Native.Nat.{ℕ, zero, suc, _+_, _-_, _*_, _≤_, _<_}
+use native.Mathlib.Omega.{arith}
+use native.Mathlib.Decide.{decLt}
+use mathlib.Core.Path.{_≡_, sym, ap, _∙_}
+use mathlib.Core.Logic.{_⊎_, inl, inr, ⊎-elim}
+use mathlib.Core.Bool.{_&&_}
+use mathlib.Core.List.{List}
+use lib.ListN.{getD}
+use lib.Dec.{eqb, eqb→eq}
+use Rattle.graph.specs.Graph.{Graph, Part, Valid, rev, stay, Same, edges}
+use Rattle.graph.specs.Parts.{Fwd, Bwd, _∖_}
+use Rattle.graph.specs.Parts as parts
+use Rattle.graph.proofs.Tests.{and-l, and-r, and-make, eq-T}
+use Rattle.graph.proofs.Counts.{many-mono}
+use Rattle.graph.proofs.Chains.{chain-first, valid-rev, same-low, reach-wider}
+use Rattle.graph.proofs.Decompose.{rest-covered}
+use Rattle.graph.proofs.Method.{bwd-rev}
+use Rattle.paint.specs.Colours.{col, paint, Opens, Hit}
+use Rattle.paint.specs.Paint.{SearchAsk, VisitAsk, Visited, Begun, Searched}
+use Rattle.paint.proofs.Painting.{paint-first, paint-still, paint-opens}
+use Rattle.paint.proofs.Growth.{grew-none}
+use Rattle.paint.proofs.Spreading.{begun-ready, begun-more}
+use Rattle.paint.proofs.Components.{fwd-low, search-whole-back}
+use Rattle.trim.specs.Cursor.{cur, Side}
+use Rattle.trim.proofs.Walks.{side-kept}
+use Rattle.parts.specs.State.{Tables, Owned}
+use Rattle.slices.specs.Seeds.{flag, seed, Rest, Seeds, unmarked, Marked, Next, Behind, AllAsk}
+use Rattle.slices.specs.Peel.{into, Standing, Inside}
+use Rattle.slices.specs.Slice.{Listed, CutAsk, Cut}
+use Rattle.parts.proofs.Splitting.{tables-kept}
+
+module _ (g : Graph) (b r s l e : ℕ) (w : List ℕ) (a : CutAsk g b r s l e w) where
+  st : Standing g b r w
+  st = a .listing .standing
+
+  ok : Valid g
+  ok = st .tables .valid
+
+  still : (y : ℕ) → paint r s r s (paint r s r s y) ≡ paint r s r s y
+  still = paint-still r s r s (omega (arith, a .under)) (omega (arith, a .under)) (omega (arith, a .under)) (omega (arith, a .under))
+
+  pub cut-ask : SearchAsk (rev g) (paint r s r s) (g .n + 1 + edges g) b w
+  cut-ask = let x = st .side .laid in record {
+    laid = record { valid = x .valid; counts = x .counts; few = x .few; below = x .below; index = x .index };
+    small = st .tables .small;
+    fits = omega (arith, st .long);
+    still = still;
+  }
+
+  -- what is open is what remains
+  opened : (v : ℕ) → Opens (paint r s r s) (col b w v) → col b w v ≡ r
+  opened v o = ⊎-elim (λ t. t) (λ t. t) (paint-opens r s r s (col b w v) o)
+
+  open-rest : (v : ℕ) → col b w v ≡ r → Opens (paint r s r s) (col b w v)
+  open-rest v q t = omega (arith, a .under, ap (paint r s r s) q ∙ paint-first r s r s, q, t)
+
+  -- SOWING
+  pub sow-none : Begun (rev g) (paint r s r s) b (Listed (g .n) b w l l) w w 0
+  sow-none = record { grew = grew-none (paint r s r s) (g .n) b w 0 _; low = λ v t. absurd (omega (arith, t .1, t .2)); shut = λ v t. absurd (omega (arith, t .1, t .2)) }
+
+  module _ (i : ℕ) (x : List ℕ) (k : ℕ) (h : i < e) (o : l ≤ i) (z : Begun (rev g) (paint r s r s) b (Listed (g .n) b w l i) w x k) where
+    pub sow-same : seed (g .n) b x i ≡ seed (g .n) b w i
+    sow-same = z .grew .kept .high (b + 8 * g .n + 2 + i) (omega arith)
+
+    pub sow-low : seed (g .n) b x i < g .n
+    sow-low = rw sow-same (a .listing .member i h)
+
+    pub sow-visit : VisitAsk (paint r s r s) (g .n) b (seed (g .n) b x i) x k
+    sow-visit = record { ready = begun-ready (rev g) (paint r s r s) (g .n + 1 + edges g) b w cut-ask (Listed (g .n) b w l i) x k z; vertex = sow-low }
+
+    pub sow-step : (x' : List ℕ) (k' : ℕ) → Visited (paint r s r s) (g .n) b (seed (g .n) b x i) x k x' k' → Begun (rev g) (paint r s r s) b (Listed (g .n) b w l (i + 1)) w x' k'
+    sow-step x' k' m = begun-more (rev g) (paint r s r s) (g .n + 1 + edges g) b w cut-ask (Listed (g .n) b w l i) x k z (Listed (g .n) b w l (i + 1)) (seed (g .n) b x i) x' k' sow-low
+        (λ v (j, p, q, t). (j, p, omega arith, t))
+        (i, o, omega arith, sym sow-same)
+        (λ v (j, p, q, t). elim (decLt j i) as (λ _. Listed (g .n) b w l i v ⊎ (v ≡ seed (g .n) b x i)) [
+          | yes d ↦ inl (j, p, d, t)
+          | no d ↦ let f : j ≡ i = omega arith in inr (sym t ∙ ap (seed (g .n) b w) f ∙ sym sow-same)
+        ])
+        m
+
+  -- CUTTING
+  module _ (w₁ : List ℕ) (k seen : ℕ) (f : Searched (rev g) (paint r s r s) b (Listed (g .n) b w l e) w w₁ k seen) where
+    abbrev X : Part
+    X = Listed (g .n) b w l e
+
+    X-low : (v : ℕ) → Listed (g .n) b w l e v → v < g .n
+    X-low v (i, p, q, t) = omega (arith, t, a .listing .member i q)
+
+    hit-bwd : (v : ℕ) → Hit (rev g) (paint r s r s) b (Listed (g .n) b w l e) w v → Bwd g (Rest (g .n) b r w) (Listed (g .n) b w l e) v
+    hit-bwd v t = bwd-rev ok v .1 (fwd-low {P = λ v. Opens (paint r s r s) (col b w v)} {Q = Rest (g .n) b r w} (valid-rev ok) X-low (λ v h o. (h, opened v o)) v t)
+
+    bwd-hit : (v : ℕ) → Bwd g (Rest (g .n) b r w) (Listed (g .n) b w l e) v → Hit (rev g) (paint r s r s) b (Listed (g .n) b w l e) w v
+    bwd-hit v t = fwd-low {P = Rest (g .n) b r w} {Q = λ v. Opens (paint r s r s) (col b w v)} (valid-rev ok) X-low (λ v h (_, c). open-rest v c) v (bwd-rev ok v .0 t)
+
+    -- painted, or as it was
+    one : (v : ℕ) → v < g .n → (Bwd g (Rest (g .n) b r w) (Listed (g .n) b w l e) v × (col b w v ≡ r) × (col b w₁ v ≡ s))
+        ⊎ ((Bwd g (Rest (g .n) b r w) (Listed (g .n) b w l e) v → ⊥) × (col b w₁ v ≡ col b w v))
+    one v h = ⊎-elim
+        (λ t. let y = hit-bwd v (t .0) in let c = chain-first (y .2 .1) .1 in inl (y, c, t .1 ∙ ap (paint r s r s) c ∙ paint-first r s r s))
+        (λ t. inr (λ y. t .0 (bwd-hit v y), t .1))
+        (f .each v h)
+
+    dec : (v : ℕ) → Dec (Bwd g (Rest (g .n) b r w) (Listed (g .n) b w l e) v)
+    dec v = elim (decLt v (g .n)) as (λ _. Dec (Bwd g (Rest (g .n) b r w) (Listed (g .n) b w l e) v)) [
+      | yes h ↦ ⊎-elim (λ t. yes (t .0)) (λ t. no (t .0)) (one v h)
+      | no h ↦ no (λ y. h (chain-first (y .2 .1) .0))
+    ]
+
+    left : (v : ℕ) → v < g .n → col b w₁ v ≡ r → (col b w v ≡ r) × (Bwd g (Rest (g .n) b r w) (Listed (g .n) b w l e) v → ⊥)
+    left v h q = ⊎-elim (λ t. absurd (omega (arith, t .2, q, a .under))) (λ t. (sym (t .1) ∙ q, t .0)) (one v h)
+
+    same : (j : ℕ) → (j < b) ⊎ (b + 2 * g .n ≤ j) → getD w₁ j 0 ≡ getD w j 0
+    same j (inl h) = f .kept .low j h
+    same j (inr h) = f .kept .high j (omega arith)
+
+    flag₁ : (v : ℕ) → flag (g .n) b w₁ v ≡ flag (g .n) b w v
+    flag₁ v = same (b + 7 * g .n + 2 + v) (inr (omega arith))
+
+    less-free : unmarked (g .n) b r w₁ ≤ unmarked (g .n) b r w
+    less-free = many-mono (λ u. eqb (col b w₁ u) r && eqb (flag (g .n) b w₁ u) 0) (λ u. eqb (col b w u) r && eqb (flag (g .n) b w u) 0) (g .n)
+        (λ u h t. and-make (eqb (col b w u) r) _ (eq-T (col b w u) r (left u h (eqb→eq (col b w₁ u) r (and-l (eqb (col b w₁ u) r) _ t)) .0))
+        (rw (flag₁ u) at (and-r (eqb (col b w₁ u) r) _ t)))
+
+    tables₁ : Tables g b w₁
+    tables₁ = tables-kept g b w w₁ (f .kept .low) (st .tables)
+
+    pub cut-all : AllAsk g b r k e w₁
+    cut-all = record {
+      tables = tables₁;
+      long = omega (arith, st .long, f .kept .long);
+      few = f .few;
+      member = λ i h. f .member i h .0;
+      room = omega (arith, a .listing .room, less-free);
+    }
+
+    module _ (w₂ : List ℕ) (e' : ℕ) (m : Marked (g .n) b r w₁ e w₂ e' (Behind g b w₁ k)) where
+      col₂ : (v : ℕ) → v < g .n → col b w₂ v ≡ col b w₁ v
+      col₂ v h = m .low (b + v) (omega arith)
+
+      went : (v : ℕ) → v < g .n → (col b w₂ v ≡ col b w v) ⊎ ((col b w v ≡ r) × (col b w₂ v ≡ s))
+      went v h = ⊎-elim (λ t. inr (t .1, col₂ v h ∙ t .2)) (λ t. inl (col₂ v h ∙ t .1)) (one v h)
+
+      whole₁ : (u v : ℕ) → u < g .n → Same g u v → col b w₁ u ≡ col b w₁ v
+      whole₁ = search-whole-back f ok X-low (st .owned .whole)
+
+      owned₂ : Owned g (col b w₂) (suc r)
+      owned₂ = record {
+        whole = λ u v h q. col₂ u h ∙ whole₁ u v h q ∙ sym (col₂ v (same-low ok q h));
+        right = λ v h q. ⊎-elim (λ t. rw t (st .owned .right v h (rw t at q))) (λ t. absurd (omega (arith, t .1, q, a .part))) (went v h);
+        below = λ v h. ⊎-elim (λ t. rw t (st .owned .below v h)) (λ t. omega (arith, t .1, a .under)) (went v h);
+      }
+
+      cur₂ : (v : ℕ) → v < g .n → cur (into g b) w₂ v ≡ cur (into g b) w v
+      cur₂ v h = m .low (into g b + v) (omega arith) ∙ same (into g b + v) (inr (omega arith))
+
+      side₂ : Side (rev g) (g .n + 1 + edges g) (into g b) b r w₂
+      side₂ = side-kept (rev g) (g .n + 1 + edges g) (into g b) b r w w₂ (λ j h. m .low j (omega arith) ∙ same j (inl h))
+          (λ v h q. (left v h (sym (col₂ v h) ∙ q) .0, cur₂ v h)) (st .side)
+
+      -- the next seeds are marked
+      seeds₂ : (v : ℕ) → Rest (g .n) b r w₂ v → parts.Next g (Rest (g .n) b r w) (Bwd g (Rest (g .n) b r w) (Listed (g .n) b w l e)) v → Seeds (g .n) b r w₂ v
+      seeds₂ v (h, c) (_, (i, u, y, d)) =
+          let (j, p, q) = f .listed u (chain-first (y .2 .1) .0) (bwd-hit u y) in
+          (h, c, m .done v h (j, p, (i, rw q d)) (sym (col₂ v h) ∙ c))
+
+      cover₂ : (v : ℕ) → Rest (g .n) b r w₂ v → Fwd g (Rest (g .n) b r w₂) (Seeds (g .n) b r w₂) v
+      cover₂ v (h, c) =
+          let t = left v h (sym (col₂ v h) ∙ c) in
+          let all : (u : ℕ) → Rest (g .n) b r w u → Fwd g (Rest (g .n) b r w) (Listed (g .n) b w l e) u =
+          λ u i. let (x, j, q) = st .cover u i in (x, a .listing .listed x j, q) in
+          let (x, j, q) = rest-covered (Listed (g .n) b w l e) dec all v ((h, t .0), t .1) in
+          let there : (u : ℕ) → (Rest (g .n) b r w ∖ Bwd g (Rest (g .n) b r w) (Listed (g .n) b w l e)) u → Rest (g .n) b r w₂ u =
+          λ u ((p, d), o). (p, col₂ u p ∙ ⊎-elim (λ y. absurd (o (y .0))) (λ y. y .1 ∙ d) (one u p)) in
+          (x, seeds₂ x (there x (chain-first (q .1))) j, reach-wider {P = Rest (g .n) b r w ∖ Bwd g (Rest (g .n) b r w) (Listed (g .n) b w l e)} {Q = Rest (g .n) b r w₂} there q)
+
+      -- a seed in what still remains is new
+      new : (v : ℕ) → Seeds (g .n) b r w₂ v → Listed (g .n) b w₂ e e' v
+      new v (h, c, o) =
+          let t = left v h (sym (col₂ v h) ∙ c) in
+          ⊎-elim
+          (λ q. let y = a .listing .listed v (h, t .0, λ z. o (q ∙ flag₁ v ∙ z)) in
+          absurd (t .1 (v, y, (zero, stay (h, t .0)))))
+          (λ q. q .2)
+          (m .each v h)
+
+      inside₂ : Inside (g .n) b w w₂
+      inside₂ = record {
+        low = λ j h. m .low j (omega arith) ∙ same j (inl h);
+        mid = λ j h q. m .low j (omega arith) ∙ same j (inr h);
+        high = λ j h. m .high j h ∙ same j (inr (omega arith));
+        long = m .long ∙ f .kept .long;
+      }
+
+      pub cut-done : Cut g b r s w e w₂ e'
+      cut-done = record {
+        listing = record {
+          standing = record {
+            tables = tables-kept g b w w₂ (inside₂ .low) (st .tables);
+            long = omega (arith, st .long, inside₂ .long);
+            over = st .over;
+            fits = st .fits;
+            owned = owned₂;
+            side = side₂;
+            cover = cover₂;
+          };
+          order = m .more;
+          room = omega (arith, m .moved, a .listing .room, less-free);
+          member = λ i h. elim (decLt i e) as (λ _. seed (g .n) b w₂ i < g .n) [
+            | yes q ↦ rw (m .front i q, same (b + 8 * g .n + 2 + i) (inr (omega arith))) (a .listing .member i q)
+            | no q ↦ m .fresh i (omega arith) h
+          ];
+          listed = new;
+        };
+        went = went;
+        kept = λ v h o. (⊎-elim (λ t. t ∙ flag₁ v) (λ t. absurd (o (left v h (t .0) .0))) (m .each v h), cur₂ v h);
+        room = omega (arith, m .moved, less-free);
+        inside = inside₂;
+      }

@@ -1,0 +1,8 @@
+pub mod Marking
+pub mod Walking
+pub mod Peeling
+pub mod Cutting
+pub mod Slicing
+pub mod Sweeping
+pub mod Drawing
+pub mod Dividing

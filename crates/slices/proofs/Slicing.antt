@@ -1,0 +1,353 @@
+-- All slices of what a pivot reaches.
+use Prim.Native.Nat.{ℕ, zero, suc, _+_, _-_, _*_, _≤_, _<_}
+use native.Mathlib.Omega.{arith}
+use native.Mathlib.Decide.{decLt}
+use mathlib.Core.Path.{_≡_, refl, sym, ap, _∙_}
+use mathlib.Core.Logic.{_⊎_, inl, inr, ⊎-elim}
+use mathlib.Core.Bool.{Bool, true, false, cond, _&&_}
+use mathlib.Core.List.{List}
+use lib.ListN.{getD}
+use lib.Dec.{T, eqb, eqb→eq}
+use Rattle.graph.specs.Graph.{Graph, Part, Valid, rev, stay, edges}
+use Rattle.graph.specs.Parts.{Fwd, Alone, only}
+use Rattle.graph.specs.Numbers.{many}
+use Rattle.graph.proofs.Tests.{and-l, eq-T}
+use Rattle.graph.proofs.Counts.{many-le, many-mono}
+use Rattle.graph.proofs.Chains.{chain-last, valid-rev, same-low, reach-wider}
+use Rattle.graph.proofs.Decompose.{fwd-covers}
+use Rattle.index.specs.Index.{start}
+use Rattle.index.proofs.Counts.{start-mono}
+use Rattle.paint.specs.Colours.{col, paint, Hit}
+use Rattle.paint.specs.Paint.{StartAsk, Searched}
+use Rattle.paint.proofs.Painting.{paint-first, paint-still, paint-opens}
+use Rattle.paint.proofs.Components.{fwd-low, search-whole}
+use Rattle.trim.specs.Cursor.{cur, Side}
+use Rattle.parts.specs.State.{Tables, Owned}
+use Rattle.slices.specs.Seeds.{flag, seed, Rest, Seeds, unmarked, MarkAsk, Mark, Marked}
+use Rattle.slices.specs.Peel.{into, Peeled, PassAsk}
+use Rattle.slices.specs.Slice.{Listed, CutAsk, Cut, CutsAsk, Cuts, Done, held, SliceAsk, Sliced}
+use Rattle.slices.proofs.Marking.{mark-step}
+use Rattle.graph.specs.Sets.{bit}
+use borrow.Author.Tests.{ne-eqb}
+use Rattle.parts.specs.Drawn.{Marks, EraseAsk, Erased}
+use Rattle.parts.proofs.Splitting.{tables-kept}
+use Rattle.slices.proofs.Peeling.{inside-none, inside-more}
+
+-- THE LOOP
+module _ (g : Graph) (b r top : ℕ) (w : List ℕ) (a : CutsAsk g b r top w) where
+  pub cuts-none : Cuts g b r top w 0 1 top w
+  cuts-none = record {
+    listing = a .listing;
+    went = λ v h. inl refl;
+    kept = λ v h o. (refl, refl);
+    least = omega arith;
+    most = omega arith;
+    room = omega arith;
+    inside = inside-none (g .n) b w;
+  }
+
+  module _ (l e s : ℕ) (x : List ℕ) (z : Cuts g b r top w l e s x) (h : l < e) where
+    pub cuts-pass : PassAsk g b r l e x
+    cuts-pass = let y = z .listing in record { standing = y .standing; order = y .order; room = y .room; member = y .member }
+
+    pub cuts-few : e ≤ g .n
+    cuts-few = omega (arith, z .listing .room)
+
+    module _ (x₁ : List ℕ) (m k : ℕ) (p : Peeled g b r x e 0 x₁ m k) where
+      rest₁ : (v : ℕ) → v < g .n → col b x₁ v ≡ r → col b x v ≡ r
+      rest₁ v i c = ⊎-elim (λ t. sym t ∙ c) (λ t. t .0) (p .went v i)
+
+      listed₁ : (v : ℕ) → Seeds (g .n) b r x₁ v → Listed (g .n) b x₁ l m v
+      listed₁ v (i, c, o) = ⊎-elim
+          (λ t. let (j, d, q, f) = z .listing .listed v (i, rest₁ v i c, λ y. o (t ∙ y)) in (j, d, omega (arith, p .more, q), p .front j q ∙ f))
+          (λ (j, d, q, f). (j, omega (arith, d, h), q, f))
+          (p .each v i)
+
+      pub cuts-cut : CutAsk g b r s l m x₁
+      cuts-cut = record {
+        listing = record {
+          standing = p .standing;
+          order = omega (arith, p .more, h);
+          room = omega (arith, p .room, z .listing .room);
+          member = λ i q. elim (decLt i e) as (λ _. seed (g .n) b x₁ i < g .n) [ yes d ↦ rw (p .front i d) (z .listing .member i d) | no d ↦ p .fresh i (omega arith) q ];
+          listed = listed₁;
+        };
+        part = omega (arith, a .part, z .least);
+        under = omega (arith, z .most, cuts-few, h, a .under);
+      }
+
+      pub cuts-step : (x₂ : List ℕ) (e' : ℕ) → Cut g b r s x₁ m x₂ e' → Cuts g b r top w m e' (s + 1) x₂
+      cuts-step x₂ e' d = record {
+        listing = d .listing;
+        went = λ v i. ⊎-elim
+            (λ t. ⊎-elim
+            (λ y. ⊎-elim (λ u. inl (u ∙ y ∙ t)) (λ u. inr (sym t ∙ sym y ∙ u .0, inr (omega (arith, u .1, z .least), omega (arith, u .1)))) (d .went v i))
+            (λ y. inr (sym t ∙ y .0, inl (⊎-elim (λ u. u ∙ y .1) (λ u. absurd (omega (arith, u .0, y .1, i, p .standing .over))) (d .went v i), y .2)))
+            (p .went v i))
+            (λ t. let stays : (col b x v ≡ r → ⊥) → col b x₂ v ≡ col b x v =
+            λ o. ⊎-elim (λ y. ⊎-elim (λ u. u ∙ y) (λ u. absurd (o (sym y ∙ u .0))) (d .went v i)) (λ y. absurd (o (y .0))) (p .went v i) in
+            inr (
+              t .0,
+              ⊎-elim
+                  (λ y. inl (stays (λ q. omega (arith, q, y .0, i, p .standing .over)) ∙ y .0, y .1))
+                  (λ y. let q = stays (λ q. omega (arith, q, y .1, z .most, cuts-few, h, a .under)) in inr (omega (arith, q, y .0), omega (arith, q, y .1))) (t .1),
+            ))
+            (z .went v i);
+        kept = λ v i o.
+            let f = z .kept v i o in
+            let o₁ : col b x v ≡ r → ⊥ = λ q. ⊎-elim (λ t. o (sym t ∙ q)) (λ t. o (t .0)) (z .went v i) in
+            let f₁ = p .kept v i o₁ in
+            let f₂ = d .kept v i (λ q. o₁ (rest₁ v i q)) in
+            (f₂ .0 ∙ f₁ .0 ∙ f .0, f₂ .1 ∙ f₁ .1 ∙ f .1);
+        least = omega (arith, z .least);
+        most = omega (arith, z .most, p .more, h);
+        room = omega (arith, d .room, p .room, z .room);
+        inside = inside-more (z .inside) (inside-more (p .inside) (d .inside));
+      }
+
+  pub cuts-all : (l e s : ℕ) (x : List ℕ) → Cuts g b r top w l e s x → e ≤ l → Done g b r top w x s
+  cuts-all l e s x z h = record {
+    places = l;
+    seeds = e;
+    cuts = z;
+    none = λ v i c. let (y, j, q) = z .listing .standing .cover v (i, c) in let (k, d, f, _) = z .listing .listed y j in omega (arith, d, f, h);
+  }
+
+-- two sets that do not meet, inside a third
+pub many-apart : (f h k : ℕ → Bool) (n : ℕ) → ((i : ℕ) → i < n → T (f i) → T (k i) × (T (h i) → ⊥)) → ((i : ℕ) → i < n → T (h i) → T (k i)) → many f n + many h n ≤ many k n
+unfolding many
+many-apart f h k zero p q = omega arith
+many-apart f h k (suc n) p q = go (f n) (h n) (k n) (p n (omega arith)) (q n (omega arith)) (many-apart f h k n (λ i l. p i (omega arith)) (λ i l. q i (omega arith)))
+  where
+    go : (a b c : Bool) → (T a → T c × (T b → ⊥)) → (T b → T c) → many f n + many h n ≤ many k n → cond a 1 0 + many f n + (cond b 1 0 + many h n) ≤ cond c 1 0 + many k n
+    go true true c x y z = absurd (x tt .1 tt)
+    go true false true x y z = omega arith
+    go true false false x y z = absurd (x tt .0)
+    go false true true x y z = omega arith
+    go false true false x y z = absurd (y tt)
+    go false false true x y z = omega arith
+    go false false false x y z = omega arith
+
+-- THE PIVOT
+module _ (g : Graph) (b p q top r : ℕ) (w : List ℕ) (a : SliceAsk g b p q top w) (rest : r ≡ 5 * g .n + 5) (cs : (e : ℕ) → g .counted e ≡ true) where
+  ok : Valid g
+  ok = a .tables .valid
+
+  q-top : q < top
+  q-top = omega (arith, a .owned .below p (a .start), a .live)
+
+  q-r : q < r
+  q-r = omega (arith, q-top, a .room, rest)
+
+  -- what a column of labels, parts and slices holds is below r
+  under-r : (v : ℕ) → v < g .n → col b w v < r
+  under-r v h = omega (arith, a .owned .below v h, a .room, rest)
+
+  pub slice-start : StartAsk g (paint q r q r) 0 b p w
+  slice-start = record {
+    ask = record {
+      laid = record { valid = ok; counts = cs; few = a .tables .few; below = omega (arith, a .tables .below); index = a .tables .fwd };
+      small = a .tables .small;
+      fits = omega (arith, a .long);
+      still = paint-still q r q r (omega (arith, q-r)) (omega (arith, q-r)) (omega (arith, q-r)) (omega (arith, q-r));
+    };
+    start = a .start;
+  }
+
+  module _ (w₁ : List ℕ) (k seen : ℕ) (f : Searched g (paint q r q r) b (only p) w w₁ k seen) where
+    abbrev A : Part
+    A v = (v < g .n) × (col b w v ≡ q)
+
+    low-p : (v : ℕ) → only p v → v < g .n
+    low-p v e = rw (← e) (a .start)
+
+    hit-F : (v : ℕ) → Hit g (paint q r q r) b (only p) w v → Fwd g (λ v. (v < g .n) × (col b w v ≡ q)) (only p) v
+    hit-F = fwd-low ok low-p (λ v h o. (h, ⊎-elim (λ t. t) (λ t. t) (paint-opens q r q r (col b w v) o)))
+
+    F-hit : (v : ℕ) → Fwd g (λ v. (v < g .n) × (col b w v ≡ q)) (only p) v → Hit g (paint q r q r) b (only p) w v
+    F-hit = fwd-low ok low-p (λ v h o t. omega (arith, q-r, ap (paint q r q r) (o .1) ∙ paint-first q r q r, o .1, t))
+
+    one : (v : ℕ) → v < g .n → (Fwd g (λ v. (v < g .n) × (col b w v ≡ q)) (only p) v × (col b w v ≡ q) × (col b w₁ v ≡ r))
+        ⊎ ((Fwd g (λ v. (v < g .n) × (col b w v ≡ q)) (only p) v → ⊥) × (col b w₁ v ≡ col b w v))
+    one v h = ⊎-elim
+        (λ t. let y = hit-F v (t .0) in let c = chain-last (y .2 .1) .1 in inl (y, c, t .1 ∙ ap (paint q r q r) c ∙ paint-first q r q r))
+        (λ t. inr (λ y. t .0 (F-hit v y), t .1))
+        (f .each v h)
+
+    was : (v : ℕ) → v < g .n → col b w₁ v ≡ r → Fwd g (λ v. (v < g .n) × (col b w v ≡ q)) (only p) v × (col b w v ≡ q)
+    was v h e = ⊎-elim (λ t. (t .0, t .1)) (λ t. absurd (omega (arith, t .1, e, under-r v h))) (one v h)
+
+    p-in : col b w₁ p ≡ r
+    p-in = ⊎-elim (λ t. t .2) (λ t. absurd (t .0 (p, refl, (zero, stay (a .start, a .live))))) (one p (a .start))
+
+    same : (j : ℕ) → (j < b) ⊎ (b + 2 * g .n ≤ j) → getD w₁ j 0 ≡ getD w j 0
+    same j (inl h) = f .kept .low j h
+    same j (inr h) = f .kept .high j (omega arith)
+
+    flag-p : flag (g .n) b w₁ p ≡ 0
+    flag-p = same (b + 7 * g .n + 2 + p) (inr (omega arith)) ∙ a .untouched p (a .start) (a .live) .0
+
+    room₁ : unmarked (g .n) b r w₁ + held (g .n) b q w₁ ≤ held (g .n) b q w
+    room₁ = many-apart (λ u. eqb (col b w₁ u) r && eqb (flag (g .n) b w₁ u) 0) (λ u. eqb (col b w₁ u) q) (λ u. eqb (col b w u) q) (g .n)
+        (λ u h t. let c = eqb→eq (col b w₁ u) r (and-l (eqb (col b w₁ u) r) _ t) in
+        (eq-T (col b w u) q (was u h c .1), λ y. omega (arith, c, eqb→eq (col b w₁ u) q y, q-r)))
+        (λ u h t. let c = eqb→eq (col b w₁ u) q t in
+        eq-T (col b w u) q (⊎-elim (λ y. y .1) (λ y. sym (y .1) ∙ c) (one u h)))
+
+    few₁ : unmarked (g .n) b r w₁ ≤ g .n
+    few₁ = many-le (λ u. eqb (col b w₁ u) r && eqb (flag (g .n) b w₁ u) 0) (g .n)
+
+    pub slice-mark : MarkAsk (g .n) b p r 0 w₁
+    slice-mark = record { low = a .start; small = a .tables .small; long = omega (arith, a .long, f .kept .long); room = λ h t. omega (arith, a .start) }
+
+    module _ (w₂ : List ℕ) (e₁ : ℕ) (mk : Mark (g .n) b p r 0 w₁ w₂ e₁) where
+      m : Marked (g .n) b r w₁ 0 w₂ e₁ (λ v. v ≡ p)
+      m = mark-step (g .n) b r w₁ 0 p slice-mark w₂ e₁ mk
+
+      e-one : e₁ ≡ 1
+      e-one = ⊎-elim (λ t. t .3) (λ t. absurd (t .0 p-in flag-p)) mk
+
+      col₂ : (v : ℕ) → v < g .n → col b w₂ v ≡ col b w₁ v
+      col₂ v h = m .low (b + v) (omega arith)
+
+      owned₂ : Owned g (col b w₂) (suc r)
+      owned₂ = record {
+        whole = λ u v h s. col₂ u h ∙ search-whole f ok low-p (a .owned .whole) u v h s ∙ sym (col₂ v (same-low ok s h));
+        right = λ v h t. ⊎-elim (λ y. absurd (omega (arith, col₂ v h, y .2, t, q-r, a .part)))
+            (λ y. let e = col₂ v h ∙ y .1 in rw e (a .owned .right v h (rw e at t))) (one v h);
+        below = λ v h. ⊎-elim (λ y. omega (arith, col₂ v h, y .2)) (λ y. omega (arith, col₂ v h, y .1, under-r v h)) (one v h);
+      }
+
+      cur₂ : (v : ℕ) → v < g .n → cur (into g b) w₂ v ≡ cur (into g b) w v
+      cur₂ v h = m .low (into g b + v) (omega arith) ∙ same (into g b + v) (inr (omega arith))
+
+      low₂ : (j : ℕ) → j < b → getD w₂ j 0 ≡ getD w j 0
+      low₂ j h = m .low j (omega arith) ∙ same j (inl h)
+
+      tables₂ : Tables g b w₂
+      tables₂ = tables-kept g b w w₂ low₂ (a .tables)
+
+      first : (v : ℕ) → v < g .n → col b w₂ v ≡ r → cur (into g b) w₂ v ≡ start (g .tgt) v
+      first v h c = cur₂ v h ∙ a .untouched v h (was v h (sym (col₂ v h) ∙ c) .1) .1
+
+      side₂ : Side (rev g) (g .n + 1 + edges g) (into g b) b r w₂
+      side₂ = record {
+        laid = record { valid = valid-rev ok; counts = cs; few = omega (arith, a .tables .few, ok .same); below = omega (arith, a .tables .below, ok .same); index = tables₂ .bwd };
+        cursors = record {
+          least = λ v h c. omega (arith, first v h c);
+          most = λ v h c. omega (arith, first v h c, start-mono (g .tgt) v (suc v) (omega arith));
+          passed = λ v j h c x y. absurd (omega (arith, x, y, first v h c));
+        };
+      }
+
+      seed-p : Seeds (g .n) b r w₂ p
+      seed-p = (a .start, col₂ p (a .start) ∙ p-in, m .done p (a .start) refl p-in)
+
+      cover₂ : (v : ℕ) → Rest (g .n) b r w₂ v → Fwd g (Rest (g .n) b r w₂) (Seeds (g .n) b r w₂) v
+      cover₂ v (h, c) =
+          let (x, i, t) = fwd-covers v (was v h (sym (col₂ v h) ∙ c) .0) in
+          let there : (u : ℕ) → Fwd g (λ v. (v < g .n) × (col b w v ≡ q)) (only p) u → Rest (g .n) b r w₂ u =
+          λ u y. let hu = chain-last (y .2 .1) .0 in (hu, col₂ u hu ∙ ⊎-elim (λ d. d .2) (λ d. absurd (d .0 y)) (one u hu)) in
+          (x, rw (← i) seed-p, reach-wider {P = Fwd g (λ v. (v < g .n) × (col b w v ≡ q)) (only p)} {Q = Rest (g .n) b r w₂} there t)
+
+      pub slice-cuts : CutsAsk g b r top w₂
+      slice-cuts = record {
+        listing = record {
+          standing = record {
+            tables = tables₂;
+            long = omega (arith, a .long, m .long, f .kept .long);
+            over = omega (arith, rest);
+            fits = omega (arith, rest, a .tables .small);
+            owned = owned₂;
+            side = side₂;
+            cover = cover₂;
+          };
+          order = omega arith;
+          room = omega (arith, m .moved, e-one, few₁);
+          member = λ i h. m .fresh i (omega arith) (omega (arith, e-one));
+          listed = λ v (h, c, o). ⊎-elim
+              (λ t. absurd (o (t ∙ same (b + 7 * g .n + 2 + v) (inr (omega arith)) ∙ a .untouched v h (was v h (sym (col₂ v h) ∙ c) .1) .0)))
+              (λ t. let (i, x, y, s) = t .2 in (i, x, omega (arith, y, e-one), s)) (m .each v h);
+        };
+        part = omega (arith, a .part, q-top);
+        under = omega (arith, a .room, rest);
+      }
+
+      module _ (w₃ : List ℕ) (s : ℕ) (d : Done g b r top w₂ w₃ s) where
+        z : Cuts g b r top w₂ (d .places) (d .seeds) s w₃
+        z = d .cuts
+
+        -- what became of a vertex
+        ends : (v : ℕ) → v < g .n → ((col b w v ≡ q) × (((col b w₃ v ≡ v) × Alone g v) ⊎ ((top ≤ col b w₃ v) × (col b w₃ v < s)))) ⊎ (col b w₃ v ≡ col b w v)
+        ends v h = ⊎-elim
+            (λ t. ⊎-elim (λ y. absurd (d .none v h (t ∙ col₂ v h ∙ y .2))) (λ y. inr (t ∙ col₂ v h ∙ y .1)) (one v h))
+            (λ t. inl (was v h (sym (col₂ v h) ∙ t .0) .1, t .1))
+            (z .went v h)
+
+        keep : (v : ℕ) → v < g .n → col b w₃ v ≡ q → (col b w v ≡ q) × (col b w₂ v ≡ r → ⊥)
+        keep v h c = ⊎-elim
+            (λ t. absurd (⊎-elim (λ y. omega (arith, y .0, c, h, a .part)) (λ y. omega (arith, y .0, c, q-top)) (t .1)))
+            (λ t. (sym t ∙ c, λ e. ⊎-elim (λ y. omega (arith, y, e, c, q-r)) (λ y. ⊎-elim (λ i. omega (arith, i .0, c, h, a .part)) (λ i. omega (arith, i .0, c, q-top)) (y .1)) (z .went v h)))
+            (ends v h)
+
+        pub slice-done : Sliced g b p q top w w₃ s
+        slice-done = record {
+          owned = record {
+            whole = z .listing .standing .owned .whole;
+            right = z .listing .standing .owned .right;
+            below = λ v h. ⊎-elim (λ t. ⊎-elim (λ y. omega (arith, y .0, h, a .part, q-top, z .least)) (λ y. y .1) (t .1)) (λ t. omega (arith, t, a .owned .below v h, z .least)) (ends v h);
+          };
+          others = λ v h o. ⊎-elim (λ t. absurd (o (t .0))) (λ t. t) (ends v h);
+          ours = λ v h c. ⊎-elim (λ t. inr (t .1)) (λ t. inl (t ∙ c)) (ends v h);
+          pivot = λ c. keep p (a .start) c .1 (col₂ p (a .start) ∙ p-in);
+          least = z .least;
+          room = omega (
+            arith,
+            z .most,
+            z .listing .order,
+            z .room,
+            m .moved,
+            e-one,
+            room₁,
+            many-mono (λ u. eqb (col b w₃ u) q) (λ u. eqb (col b w₁ u) q) (g .n) (λ u h t.
+                let c = eqb→eq (col b w₃ u) q t in
+                eq-T (col b w₁ u) q (⊎-elim (λ y. absurd (keep u h c .1 (col₂ u h ∙ y .2))) (λ y. y .1 ∙ keep u h c .0) (one u h))),
+          );
+          untouched = λ v h c.
+              let i = keep v h c in
+              let t = z .kept v h (i .1) in
+              let u = a .untouched v h (i .0) in (
+                t .0 ∙ ⊎-elim (λ y. y ∙ same (b + 7 * g .n + 2 + v) (inr (omega arith))) (λ y. absurd (i .1 (col₂ v h ∙ y .0))) (m .each v h) ∙ u .0,
+                t .1 ∙ cur₂ v h ∙ u .1,
+              );
+          inside = inside-more (record {
+            low = low₂;
+            mid = λ j h y. m .low j (omega arith) ∙ same j (inr h);
+            high = λ j h. m .high j h ∙ same j (inr (omega arith));
+            long = m .long ∙ f .kept .long;
+          }) (z .inside);
+        }
+
+        -- the set that loses what p reaches is what is left of the part
+        pub slice-marks : (ws : List ℕ) (size : ℕ) → Marks (g .n) b q w ws size → (ws₁ : List ℕ) (left : ℕ) → Erased (g .n) b w₁ k ws ws₁ left → Marks (g .n) b q w₃ ws₁ left
+        slice-marks ws size y ws₁ left er = record {
+          words = er .long ∙ y .words;
+          bits = λ v h. ⊎-elim
+              (λ t. let (i, x, e) = f .listed v h (t .0) in
+              let c : col b w₁ v ≡ r = ⊎-elim (λ o. o .2) (λ o. absurd (o .0 (hit-F v (t .0)))) (one v h) in
+              ap (bit ws₁) (sym e) ∙ er .gone i x ∙ ap (λ (o : Bool). cond o 1 0) (sym (ne-eqb (col b w₃ v) q (λ o. keep v h o .1 (col₂ v h ∙ c)))))
+              (λ t. er .else v (λ i x e. t .0 (rw e at (f .member i x .1))) ∙ y .bits v h
+              ∙ ap (λ (o : ℕ). cond (eqb o q) 1 0) (sym (t .1) ∙ sym (col₂ v h)
+              ∙ ⊎-elim (λ o. sym o) (λ o. absurd (omega (arith, sym (col₂ v h) ∙ o .0, t .1, under-r v h))) (z .went v h)))
+              (f .each v h);
+          size = er .size;
+        }
+
+-- what a search has painted is taken out of the set
+pub slice-erase : (g : Graph) (b p q top r : ℕ) (w : List ℕ) → SliceAsk g b p q top w → (w₁ : List ℕ) (k seen : ℕ) → Searched g (paint q r q r) b (only p) w w₁ k seen
+    → (ws : List ℕ) (size : ℕ) → Marks (g .n) b q w ws size → EraseAsk (g .n) b w₁ k ws size
+slice-erase g b p q top r w a w₁ k seen s ws size z = record {
+  queued = record { member = λ i h. s .member i h .0; few = s .few; small = a .tables .small; fits = omega (arith, a .long, s .kept .long) };
+  words = z .words;
+  size = z .size;
+}

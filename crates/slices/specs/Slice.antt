@@ -1,0 +1,94 @@
+-- A slice: everything that reaches a seed within what remains. The successors of the slice outside it are the next seeds.
+use Prim.Native.Nat.{ℕ, _+_, _*_, _≤_, _<_}
+use mathlib.Core.Path.{_≡_}
+use mathlib.Core.List.{List}
+use mathlib.Core.Logic.{_⊎_}
+use lib.ListN.{length}
+use lib.Dec.{eqb}
+use Rattle.graph.specs.Graph.{Graph, Part}
+use Rattle.graph.specs.Parts.{Alone}
+use Rattle.graph.specs.Numbers.{many}
+use Rattle.index.specs.Index.{start}
+use Rattle.paint.specs.Colours.{col}
+use Rattle.trim.specs.Cursor.{cur}
+use Rattle.parts.specs.State.{Tables, Owned}
+use Rattle.slices.specs.Seeds.{flag, seed, Seeds, unmarked}
+use Rattle.slices.specs.Peel.{into, Standing, Inside}
+
+-- v stands in the list of seeds, from place l up to e
+abbrev pub Listed : ℕ → ℕ → List ℕ → ℕ → ℕ → Part
+Listed n b w l e v = (i : ℕ) × (l ≤ i) × (i < e) × (seed n b w i ≡ v)
+
+-- All seeds in what remains stand in the list from place l up to e.
+pub record Listing (g : Graph) (b r l e : ℕ) (w : List ℕ) : Type 0 where
+  pub standing : Standing g b r w
+  pub order : l ≤ e
+  pub room : e + unmarked (g .n) b r w ≤ g .n
+  pub member : (i : ℕ) → i < e → seed (g .n) b w i < g .n
+  pub listed : (v : ℕ) → Seeds (g .n) b r w v → Listed (g .n) b w l e v
+
+pub record CutAsk (g : Graph) (b r s l e : ℕ) (w : List ℕ) : Type 0 where
+  pub listing : Listing g b r l e w
+  pub part : g .n ≤ s
+  pub under : s < r
+
+-- What reaches a listed seed within what remains has the colour s; the seeds in what remains now stand in the list from e up to e'.
+pub record Cut (g : Graph) (b r s : ℕ) (w : List ℕ) (e : ℕ) (w' : List ℕ) (e' : ℕ) : Type 0 where
+  pub listing : Listing g b r e e' w'
+  pub went : (v : ℕ) → v < g .n → (col b w' v ≡ col b w v) ⊎ ((col b w v ≡ r) × (col b w' v ≡ s))
+  pub kept : (v : ℕ) → v < g .n → (col b w v ≡ r → ⊥) → (flag (g .n) b w' v ≡ flag (g .n) b w v) × (cur (into g b) w' v ≡ cur (into g b) w v)
+  pub room : e' + unmarked (g .n) b r w' ≤ e + unmarked (g .n) b r w
+  pub inside : Inside (g .n) b w w'
+
+-- Of what remained in w, a vertex still remains, is a component alone and has its label, or is in one of the slices top .. s - 1.
+pub record Cuts (g : Graph) (b r top : ℕ) (w : List ℕ) (l e s : ℕ) (w' : List ℕ) : Type 0 where
+  pub listing : Listing g b r l e w'
+  pub went : (v : ℕ) → v < g .n → (col b w' v ≡ col b w v)
+      ⊎ ((col b w v ≡ r) × (((col b w' v ≡ v) × Alone g v) ⊎ ((top ≤ col b w' v) × (col b w' v < s))))
+  pub kept : (v : ℕ) → v < g .n → (col b w v ≡ r → ⊥) → (flag (g .n) b w' v ≡ flag (g .n) b w v) × (cur (into g b) w' v ≡ cur (into g b) w v)
+  pub least : top ≤ s
+  pub most : s ≤ top + l
+  pub room : e + unmarked (g .n) b r w' ≤ 1 + unmarked (g .n) b r w
+  pub inside : Inside (g .n) b w w'
+
+pub record CutsAsk (g : Graph) (b r top : ℕ) (w : List ℕ) : Type 0 where
+  pub listing : Listing g b r 0 1 w
+  pub part : g .n ≤ top
+  pub under : top + g .n < r
+
+-- Nothing remains.
+pub record Done (g : Graph) (b r top : ℕ) (w w' : List ℕ) (s : ℕ) : Type 0 where
+  pub places : ℕ
+  pub seeds : ℕ
+  pub cuts : Cuts g b r top w places seeds s w'
+  pub none : (v : ℕ) → v < g .n → col b w' v ≡ r → ⊥
+
+-- how many vertices have the colour q
+abbrev pub held : ℕ → ℕ → ℕ → List ℕ → ℕ
+held n b q w = many (λ v. eqb (col b w v) q) n
+
+-- no vertex of the colour q has been looked at
+abbrev pub Untouched : Graph → ℕ → ℕ → List ℕ → Type 0
+Untouched g b q w = (v : ℕ) → v < g .n → col b w v ≡ q → (flag (g .n) b w v ≡ 0) × (cur (into g b) w v ≡ start (g .tgt) v)
+
+-- p is a vertex of the part q; top and all above it are no colours yet
+pub record SliceAsk (g : Graph) (b p q top : ℕ) (w : List ℕ) : Type 0 where
+  pub tables : Tables g b w
+  pub long : b + 10 * g .n + 2 ≤ length w
+  pub owned : Owned g (col b w) top
+  pub start : p < g .n
+  pub live : col b w p ≡ q
+  pub part : g .n ≤ q
+  pub room : top ≤ 4 * g .n + 4
+  pub untouched : Untouched g b q w
+
+-- What p reaches in the part q is cut into components alone, which have their labels, and the slices top .. top' - 1.
+pub record Sliced (g : Graph) (b p q top : ℕ) (w w' : List ℕ) (top' : ℕ) : Type 0 where
+  pub owned : Owned g (col b w') top'
+  pub others : (v : ℕ) → v < g .n → (col b w v ≡ q → ⊥) → col b w' v ≡ col b w v
+  pub ours : (v : ℕ) → v < g .n → col b w v ≡ q → (col b w' v ≡ q) ⊎ (((col b w' v ≡ v) × Alone g v) ⊎ ((top ≤ col b w' v) × (col b w' v < top')))
+  pub pivot : col b w' p ≡ q → ⊥
+  pub least : top ≤ top'
+  pub room : top' + held (g .n) b q w' ≤ top + held (g .n) b q w
+  pub untouched : Untouched g b q w'
+  pub inside : Inside (g .n) b w w'

@@ -1,0 +1,144 @@
+// Peeling: a seed that no edge of what remains enters is a component alone and goes; its successors become seeds.
+ghost use mathlib.Core.Path.{_≡_};
+ghost use Rattle.graph.specs.Graph.{graph};
+ghost use Rattle.slices.specs.Peel.{PeelAsk, Peeled, DrainAsk, PassAsk};
+use crate::seeds;
+use trim::cursor;
+
+// How many seeds are listed, and how many vertices have gone.
+pub struct Count {
+    pub seeds: usize,
+    pub gone: usize,
+}
+
+// v goes, if it remains and no edge of what remains enters it.
+fn settle(
+    sources: &[u32],
+    targets: &[u32],
+    n: usize,
+    w: &mut [u32],
+    b: usize,
+    v: usize,
+    r: u32,
+    e: usize,
+    k: usize,
+) -> Count
+    requires { ⌜ PeelAsk (graph n (now sources) (now targets)) b r v e k (now w) ⌝ }
+    ensures { λ c. ⌜ Peeled (graph n (now (sources .entry)) (now (targets .entry))) b r (now (w .entry)) e k (now (w .exit)) (c .seeds) (c .gone) ⌝ }
+{
+    if w[b + v] != r {
+        return Count { seeds: e, gone: k };
+    }
+    if cursor::advance(n, sources, w, n + 1 + sources.len(), b + 6 * n + 2, b, v, r) != 0 {
+        return Count { seeds: e, gone: k };
+    }
+    w[b + v] = v as u32;
+    w[b + n + k] = v as u32;
+    let more = seeds::mark_next(sources, targets, n, w, b, v, r, e);
+    Count {
+        seeds: more,
+        gone: k + 1,
+    }
+}
+
+// The successors of u are looked at again.
+fn settle_next(
+    sources: &[u32],
+    targets: &[u32],
+    n: usize,
+    w: &mut [u32],
+    b: usize,
+    u: usize,
+    r: u32,
+    e0: usize,
+    k0: usize,
+) -> Count
+    requires { ⌜ PeelAsk (graph n (now sources) (now targets)) b r u e0 k0 (now w) ⌝ }
+    ensures { λ c. ⌜ Peeled (graph n (now (sources .entry)) (now (targets .entry))) b r (now (w .entry)) e0 k0 (now (w .exit)) (c .seeds) (c .gone) ⌝ }
+{
+    let mut i = w[u] as usize;
+    let t = w[u + 1] as usize;
+    let mut e = e0;
+    let mut k = k0;
+    while i < t {
+        let a = w[n + 1 + i] as usize;
+        let y = targets[a] as usize;
+        let c = settle(sources, targets, n, w, b, y, r, e, k);
+        e = c.seeds;
+        k = c.gone;
+        i += 1;
+    }
+    Count { seeds: e, gone: k }
+}
+
+// The successors of all that has gone are looked at again, until no more goes. How many seeds are listed.
+fn drain(
+    sources: &[u32],
+    targets: &[u32],
+    n: usize,
+    w: &mut [u32],
+    b: usize,
+    r: u32,
+    e0: usize,
+    k0: usize,
+) -> Count
+    requires { ⌜ DrainAsk (graph n (now sources) (now targets)) b r e0 k0 (now w) ⌝ }
+    ensures { λ c. ⌜ Peeled (graph n (now (sources .entry)) (now (targets .entry))) b r (now (w .entry)) e0 k0 (now (w .exit)) (c .seeds) (c .gone) ⌝ }
+{
+    let mut h = 0;
+    let mut e = e0;
+    let mut k = k0;
+    while h < k {
+        let u = w[b + n + h] as usize;
+        let c = settle_next(sources, targets, n, w, b, u, r, e, k);
+        e = c.seeds;
+        k = c.gone;
+        h += 1;
+    }
+    Count { seeds: e, gone: k }
+}
+
+// The seeds at the places l .. e0 - 1 of the list are looked at once.
+fn pass(
+    sources: &[u32],
+    targets: &[u32],
+    n: usize,
+    w: &mut [u32],
+    b: usize,
+    r: u32,
+    l: usize,
+    e0: usize,
+) -> Count
+    requires { ⌜ PassAsk (graph n (now sources) (now targets)) b r l e0 (now w) ⌝ }
+    ensures { λ c. ⌜ Peeled (graph n (now (sources .entry)) (now (targets .entry))) b r (now (w .entry)) e0 0 (now (w .exit)) (c .seeds) (c .gone) ⌝ }
+{
+    let mut i = l;
+    let mut e = e0;
+    let mut k = 0;
+    while i < e0 {
+        let v = w[b + 8 * n + 2 + i] as usize;
+        let c = settle(sources, targets, n, w, b, v, r, e, k);
+        e = c.seeds;
+        k = c.gone;
+        i += 1;
+    }
+    Count { seeds: e, gone: k }
+}
+
+// Seeds go until none can. How many seeds are listed.
+pub fn peel(
+    sources: &[u32],
+    targets: &[u32],
+    n: usize,
+    w: &mut [u32],
+    b: usize,
+    r: u32,
+    l: usize,
+    e: usize,
+) -> Count
+    requires { ⌜ PassAsk (graph n (now sources) (now targets)) b r l e (now w) ⌝ }
+    ensures { λ c. ⌜ Peeled (graph n (now (sources .entry)) (now (targets .entry))) b r (now (w .entry)) e 0 (now (w .exit)) (c .seeds) (c .gone) ⌝ }
+{
+    let c = pass(sources, targets, n, w, b, r, l, e);
+    drain(sources, targets, n, w, b, r, c.seeds, c.gone)
+}
