@@ -13,7 +13,7 @@ use Rattle.graph.specs.Numbers.{least}
 use Rattle.graph.specs.Checker.{at, noEdge, entry}
 use Rattle.graph.proofs.Chains.{chain-end, chain-last, chain-snoc, chain-still, edge-from-low}
 use Rattle.graph.proofs.Least.{least-found}
-use Rattle.certificate.specs.Classes.{class, OwnLabels, Distances}
+use Rattle.classes.specs.Classes.{class, OwnLabels, Distances}
 use Rattle.certificate.specs.Entries.{fits, FirstFit, Entries}
 
 -- what a fit says

@@ -1,16 +1,7 @@
-pub mod Inside
 pub mod Right
 pub mod Fitting
 pub mod Waiting
-pub mod Counting
-pub mod Peeling
-pub mod Storing
-pub mod Settling
-pub mod Scanning
-pub mod Taking
-pub mod Freeing
 pub mod Offering
-pub mod Classing
 pub mod Working
 pub mod Writing
 pub mod Unique

@@ -13,10 +13,10 @@ use Rattle.graph.specs.Graph.{Graph, Valid, edges, from, to}
 use Rattle.graph.specs.Memory.{Framed}
 use Rattle.graph.specs.Checker.{at, noEdge}
 use Rattle.graph.proofs.Memory.{framed-none, framed-more}
-use Rattle.certificate.specs.Memory.{region, Holds, Filled}
+use Rattle.regions.specs.Regions.{region, Holds, Filled}
 use Rattle.certificate.specs.Entries.{fits, FirstFit}
 use Rattle.certificate.specs.Offer.{Offered, Entered}
-use Rattle.certificate.proofs.Storing.{set-framed}
+use Rattle.regions.proofs.Storing.{set-framed}
 
 pub fits-same : (g : Graph) (lab : List ℕ) (d h : ℕ → ℕ) (e v : ℕ) → d v ≡ h v → d (from g e) ≡ h (from g e) → fits g lab d e v ≡ fits g lab h e v
 unfolding fits

@@ -12,9 +12,9 @@ use Rattle.graph.specs.Certificate.{Right, Climb, here, flat, up, rankOf}
 use Rattle.graph.proofs.Chains.{chain-wider, chain-to-low, valid-rev, edge-from-low, edge-to-low, reach-rev}
 use Rattle.graph.proofs.Loops.{ranks-end}
 use Rattle.graph.proofs.Rank.{climb-on, rank-is, rank-unique}
-use Rattle.certificate.specs.Classes.{class, OwnLabels, Distances}
-use Rattle.certificate.specs.Ranks.{Ranks}
-use Rattle.certificate.proofs.Inside.{right-tells}
+use Rattle.classes.specs.Classes.{class, OwnLabels, Distances}
+use Rattle.ranks.specs.Ranks.{Ranks}
+use Rattle.classes.proofs.Inside.{right-tells}
 
 module _ {g : Graph} (ok : Valid g) (counts : (e : ℕ) → T (g .counted e)) (lab : List ℕ) (own : OwnLabels (g .n) lab) (rank : ℕ → ℕ) (ranks : Ranks g lab rank) where
   one-rank : (u v : ℕ) → u < g .n → v < g .n → at lab u ≡ at lab v → rank u ≡ rank v

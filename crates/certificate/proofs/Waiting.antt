@@ -6,7 +6,6 @@ use mathlib.Core.Path.{_≡_, refl, sym, ap, _∙_}
 use mathlib.Core.Logic.{_⊎_, inl, inr, by-cases}
 use mathlib.Core.List.{List}
 use lib.Dec.{T, eqb}
-use borrow.Author.Tests.{eq-eqb, ne-eqb}
 use Rattle.graph.specs.Graph.{Graph, Valid, Edge, Reach, all, rev, edges, from, to}
 use Rattle.graph.specs.Limits.{mostEdges}
 use Rattle.graph.specs.Search.{every, reached}
@@ -15,43 +14,12 @@ use Rattle.graph.specs.Certificate.{Right}
 use Rattle.graph.proofs.Chains.{reach-edge}
 use Rattle.graph.proofs.Search.{count}
 use Rattle.graph.proofs.Rank.{behind-le, behind-lt}
-use Rattle.certificate.specs.Classes.{OwnLabels, Distances}
+use Rattle.classes.specs.Classes.{OwnLabels, Distances}
 use Rattle.certificate.specs.Entries.{FirstFit, Entries}
-use Rattle.certificate.specs.Ranks.{lead, rise, Peeled, Stuck, Ranks}
-use Rattle.certificate.proofs.Inside.{right-tells}
+use Rattle.ranks.specs.Ranks.{lead, rise, Peeled, Stuck, Ranks}
+use Rattle.classes.proofs.Inside.{right-tells}
 use Rattle.certificate.proofs.Fitting.{Fit, fits-says, own-none, edge-fits}
-
-module _ (g : Graph) (lab : List ℕ) (inEdge : ℕ → ℕ) (e : ℕ) where
-  -- an edge that changes the label is awaited by the label it leads to
-  pub lead-change : (at lab (from g e) ≡ at lab (to g e) → ⊥) → (lead g lab inEdge e ≡ at lab (to g e)) × (rise g lab e ≡ 1)
-  unfolding lead rise
-  lead-change o = (rw (ne-eqb _ _ o), rw (ne-eqb _ _ o))
-
-  -- an in-edge is awaited by the vertex it enters
-  pub lead-in : at lab (from g e) ≡ at lab (to g e) → inEdge (to g e) ≡ e → (lead g lab inEdge e ≡ to g e) × (rise g lab e ≡ 0)
-  unfolding lead rise
-  lead-in s q = (rw (eq-eqb _ _ s, eq-eqb _ _ q), rw (eq-eqb _ _ s))
-
-  -- no other is awaited
-  pub lead-none : at lab (from g e) ≡ at lab (to g e) → (inEdge (to g e) ≡ e → ⊥) → lead g lab inEdge e ≡ g .n
-  unfolding lead
-  lead-none s o = rw (eq-eqb _ _ s, ne-eqb _ _ o)
-
-  -- the ways in which v awaits e
-  pub awaits : (v : ℕ) → v < g .n → lead g lab inEdge e ≡ v
-      → ((at lab (from g e) ≡ at lab (to g e)) × (inEdge v ≡ e) × (to g e ≡ v) × (rise g lab e ≡ 0))
-      ⊎ ((at lab (from g e) ≡ at lab (to g e) → ⊥) × (at lab (to g e) ≡ v) × (rise g lab e ≡ 1))
-  awaits v l q = go (ℕ-discrete (at lab (from g e)) (at lab (to g e))) (ℕ-discrete (inEdge (to g e)) e)
-    where
-      go : Dec (at lab (from g e) ≡ at lab (to g e)) → Dec (inEdge (to g e) ≡ e)
-          → ((at lab (from g e) ≡ at lab (to g e)) × (inEdge v ≡ e) × (to g e ≡ v) × (rise g lab e ≡ 0))
-          ⊎ ((at lab (from g e) ≡ at lab (to g e) → ⊥) × (at lab (to g e) ≡ v) × (rise g lab e ≡ 1))
-      go (yes s) (yes i) =
-          let (a, r) = lead-in s i in
-          let t : to g e ≡ v = sym a ∙ q in
-          inl (s, rw t at i, t, r)
-      go (yes s) (no o) = absurd (omega (arith, lead-none s o))
-      go (no o) _ = let (a, r) = lead-change o in inr (o, sym a ∙ q, r)
+use Rattle.ranks.proofs.Leads.{lead-change, lead-in, awaits}
 
 module _ {g : Graph} (ok : Valid g) (lab : List ℕ) (own : OwnLabels (g .n) lab) (d inEdge : ℕ → ℕ) (near : Distances g lab d) (first : Entries g lab d inEdge) (few : edges g ≤ mostEdges) where
   low : (v : ℕ) → v < g .n → at lab v < g .n

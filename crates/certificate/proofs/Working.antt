@@ -16,18 +16,18 @@ use Rattle.graph.proofs.Tests.{getD-table}
 use Rattle.graph.proofs.Chains.{valid-rev, label-rev}
 use Rattle.index.specs.Build.{BothAsk, Both}
 use Rattle.index.proofs.Moved.{indexed-kept}
-use Rattle.certificate.specs.Classes.{class, OwnLabels, Distances}
-use Rattle.certificate.specs.Memory.{region, inDistances, outDistances, inEdges, outEdges, ranksAt, countsAt}
-use Rattle.certificate.specs.Ranks.{Peeled, Stuck}
-use Rattle.certificate.specs.Peel.{RanksAsk, Ranked}
+use Rattle.classes.specs.Classes.{class, OwnLabels, Distances}
+use Rattle.regions.specs.Regions.{region, inDistances, outDistances, inEdges, outEdges, ranksAt, countsAt}
+use Rattle.ranks.specs.Ranks.{Peeled, Stuck}
+use Rattle.ranks.specs.Peel.{RanksAsk, Ranked}
 use Rattle.certificate.specs.Offer.{EntriesAsk, Entered}
-use Rattle.certificate.specs.Search.{Owned, DistancesAsk, Measured}
+use Rattle.classes.specs.Search.{Owned, DistancesAsk, Measured}
 use Rattle.certificate.specs.Work.{base, WorkAsk, FindAsk, Near, Found, CompleteAsk, Completed, Made, Worked}
-use Rattle.certificate.proofs.Inside.{right-own, reached-inside, near-is}
+use Rattle.classes.proofs.Inside.{right-own, reached-inside, near-is}
 use Rattle.certificate.proofs.Right.{labels-right, rank-right}
 use Rattle.certificate.proofs.Fitting.{edge-least}
 use Rattle.certificate.proofs.Waiting.{gone-ranks, none-stays}
-use Rattle.certificate.proofs.Classing.{clash, not-true-false, not-false-true}
+use Rattle.classes.proofs.Classing.{clash, not-true-false, not-false-true}
 
 -- a vertex that is not reached inside its class refutes the labels
 unreached : {g : Graph} → Valid g → (lab : List ℕ) → (v : ℕ) × (v < g .n) × ((h : ℕ) → Chain g (class lab (at lab v)) h (at lab v) v → ⊥) → Right g lab → ⊥
@@ -143,7 +143,7 @@ module _ {n : ℕ} {sources targets lab : List ℕ} {b : ℕ} {w : List ℕ} (a 
               record {
                 valid = a .valid;
                 size = a .size;
-                own = a .own;
+                labels-low = λ v l. omega (arith, a .own v l .0);
                 small = a .small;
                 few = a .few;
                 fits = omega (arith, a .room, x .framed .long, y .framed .long);

@@ -21,9 +21,9 @@ use Rattle.graph.specs.Certificate.{Right, certificate, ranks, distances, entri
 use Rattle.graph.proofs.Tests.{some-below-iff, length-table}
 use Rattle.graph.proofs.Search.{label-is, label-eq}
 use Rattle.graph.proofs.Refusals.{or-stop, or-pass, or-none, given-none, or-left-none, Passed, table-passed, passed-valid}
-use Rattle.certificate.specs.Memory.{Copied}
+use Rattle.regions.specs.Regions.{Copied}
 use Rattle.certificate.specs.Work.{base, Beyond, WorkAsk, Made, Worked, HandAsk, Handed, ClearAsk, Cleared}
-use Rattle.certificate.proofs.Classing.{clash, not-true-false, not-false-true}
+use Rattle.classes.proofs.Classing.{clash, not-true-false, not-false-true}
 use Rattle.certificate.specs.Promise.{lent, Call, call, table, columns, wrongSize, wrongLabel, earlyRefusal, writerRefusal, Promise}
 
 -- what a call has that is not refused by 1 to 6

@@ -1,9 +1,4 @@
-pub mod Classes
 pub mod Entries
-pub mod Ranks
-pub mod Memory
-pub mod Peel
 pub mod Offer
-pub mod Search
 pub mod Work
 pub mod Promise

@@ -8,7 +8,7 @@ use lib.ListN.{length, set}
 use Rattle.graph.specs.Graph.{Graph, Valid, edges, from, to}
 use Rattle.graph.specs.Limits.{mostEdges}
 use Rattle.graph.specs.Memory.{Framed}
-use Rattle.certificate.specs.Memory.{region, Holds}
+use Rattle.regions.specs.Regions.{region, Holds}
 use Rattle.certificate.specs.Entries.{fits, Entries}
 
 -- distances stand from d on, entries go to the region from b on

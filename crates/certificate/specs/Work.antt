@@ -11,10 +11,10 @@ use Rattle.graph.specs.Memory.{Zeroed}
 use Rattle.graph.specs.Checker.{at}
 use Rattle.graph.specs.Certificate.{Right, certificate}
 use Rattle.index.specs.Index.{Indexed}
-use Rattle.certificate.specs.Classes.{OwnLabels, Distances}
-use Rattle.certificate.specs.Memory.{region, inDistances, outDistances, inEdges, outEdges, ranksAt, countsAt, Copied}
+use Rattle.classes.specs.Classes.{OwnLabels, Distances}
+use Rattle.regions.specs.Regions.{region, inDistances, outDistances, inEdges, outEdges, ranksAt, countsAt, Copied}
 use Rattle.certificate.specs.Entries.{Entries}
-use Rattle.certificate.specs.Ranks.{Peeled, Stuck}
+use Rattle.ranks.specs.Ranks.{Peeled, Stuck}
 
 -- the regions stand behind the two indexes
 abbrev pub base : Graph → ℕ

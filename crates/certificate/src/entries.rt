@@ -1,7 +1,6 @@
 // In-edges: for each vertex the smallest edge that enters it from one step nearer to its label.
 ghost use Rattle.graph.specs.Graph.{graph};
 ghost use Rattle.certificate.specs.Offer.{OfferAsk, Offered, EntriesAsk, Entered};
-use crate::memory;
 use checker::NO_EDGE;
 
 // Edge e becomes the entry of the vertex that it enters, if it fits the distances, which stand in w from d on.
@@ -44,7 +43,7 @@ pub fn entries(
     requires { ⌜ EntriesAsk (graph n (now sources) (now targets)) (now label) d b (now w) ⌝ }
     ensures { λ _. ⌜ Entered (graph n (now (sources .entry)) (now (targets .entry))) (now (label .entry)) d b (now (w .entry)) (now (w .exit)) ⌝ }
 {
-    memory::fill(w, b, n, NO_EDGE);
+    regions::fill(w, b, n, NO_EDGE);
     let mut e = sources.len();
     while 0 < e {
         e -= 1;

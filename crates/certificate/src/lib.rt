@@ -5,10 +5,7 @@ ghost use Rattle.certificate.specs.Promise.{lent, call, earlyRefusal, Pr
 use graph::limits;
 use graph::table;
 
-mod classes;
 mod entries;
-mod memory;
-mod ranks;
 mod work;
 
 // The first of 1 to 6 that applies, else 0.
@@ -72,11 +69,11 @@ fn hand(
     requires { ⌜ HandAsk n b (now numbers) (now rank) (now «in_edge») (now «in_distance») (now «out_edge») (now «out_distance») ⌝ }
     ensures { λ _. ⌜ Handed n b (now (numbers .entry)) (now (rank .entry)) (now (rank .exit)) (now («in_edge» .entry)) (now («in_edge» .exit)) (now («in_distance» .entry)) (now («in_distance» .exit)) (now («out_edge» .entry)) (now («out_edge» .exit)) (now («out_distance» .entry)) (now («out_distance» .exit)) ⌝ }
 {
-    memory::copy(numbers, b + 5 * n, rank);
-    memory::copy(numbers, b + 3 * n, in_edge);
-    memory::copy(numbers, b, in_distance);
-    memory::copy(numbers, b + 4 * n, out_edge);
-    memory::copy(numbers, b + n, out_distance);
+    regions::copy(numbers, b + 5 * n, rank);
+    regions::copy(numbers, b + 3 * n, in_edge);
+    regions::copy(numbers, b, in_distance);
+    regions::copy(numbers, b + 4 * n, out_edge);
+    regions::copy(numbers, b + n, out_distance);
 }
 
 // The working memory that a call needs becomes zero.

@@ -3,9 +3,7 @@ ghost use Prim.Native.Nat.{_+_, _*_};
 ghost use lib.ListN.{length};
 ghost use Rattle.graph.specs.Graph.{graph};
 ghost use Rattle.certificate.specs.Work.{base, FindAsk, Found, CompleteAsk, Completed, WorkAsk, Worked};
-use crate::classes;
 use crate::entries;
-use crate::ranks;
 use index::build;
 
 // The distances from and to the labels; false if some vertex is not reached inside its class.

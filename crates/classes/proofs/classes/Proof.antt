@@ -1,0 +1,55 @@
+use mathlib.Core.Path.{_≡_}
+use Prim.Native.Nat.{_≤_, _-_}
+use native.Mathlib.Omega.{arith}
+use Rattle.graph.specs.Graph.{graph, from, to}
+use Rattle.graph.specs.Checker.{at}
+use Rattle.classes.specs.Classes.{class}
+use Rattle.classes.specs.Search.{Sorted}
+use Rattle.paint.specs.Colours.{Kept}
+use Rattle.paint.proofs.Painting.{kept-none, kept-more}
+use Rattle.classes.proofs.Classing.{ask-kept}
+use Rattle.classes.proofs.classes.Statement.{statement}
+use Rattle.classes.proofs.classes.Tie as tie
+
+abbrev Inv-loop : tie.InvT-loop
+Inv-loop from to n label w₀ ix b l₀ w l = (l ≤ n) × Kept n b w₀ w × Sorted (graph n from to) label b l w
+
+abbrev μ-loop : tie.MeasureT-loop
+μ-loop from to n label w₀ ix b l₀ w l = n - l
+
+loop-holds : tie.Need-loop-holds Inv-loop μ-loop
+loop-holds c = let s = (c .before .before .before .before) in (omega arith, kept-none (s .args .n) (s .args .b) (s .args .w .now), s .pre .sorted)
+
+class-requires : tie.Need-class-requires Inv-loop μ-loop
+class-requires c κs = let s = (c .before .before .before .before .before .before .before) in let l = c .before .before .loop in (record { ask = ask-kept (s .pre .ask) (l .inv .1 .low) (l .inv .1 .long); low = l .inv .0; sorted = l .inv .2 }, c .before .loop-test .taken)
+
+add-l : tie.Need-add-l Inv-loop μ-loop
+add-l c = omega arith
+
+loop-less : tie.Need-loop-less Inv-loop μ-loop
+loop-less c = omega arith
+
+loop-again : tie.Need-loop-again Inv-loop μ-loop
+loop-again c = let s = (c .before .before .before .before .before .before .before .before .before .before) in let l = c .before .before .before .before .before .loop in let y = c .before .before .class .ensures in (omega arith, kept-more (l .inv .1) (y .kept), y .sorted)
+
+same-length : tie.Need-same-length Inv-loop μ-loop
+same-length c = c .before .loop .inv .1 .long
+
+returns : tie.Need-returns Inv-loop μ-loop
+returns c = let s = (c .before .before .before .before .before .before) in let l = c .before .loop in
+    let e : l .l ≡ s .args .n = omega arith in
+    record { kept = l .inv .1; sorted = rw e at (l .inv .2) }
+
+pub classes-spec : {M : Type 1} → statement M
+classes-spec =
+    tie.close
+    (tie.spec
+    Inv-loop
+    μ-loop
+    loop-holds
+    class-requires
+    add-l
+    loop-less
+    loop-again
+    same-length
+    returns)

@@ -1,0 +1,114 @@
+// Classes of labels: each is searched from its label, inside the class.
+ghost use mathlib.Core.Path.{_≡_};
+ghost use Prim.Native.Nat.{_+_, _≤_, _<_};
+ghost use lib.ListN.{length};
+ghost use Rattle.graph.specs.Graph.{graph};
+ghost use Rattle.classes.specs.Search.{Own, Owned, ColourAsk, Coloured, ClassAsk, Classed, AllFound, DistancesAsk, Measured};
+use paint::distances as measuring;
+
+// Is v's label at most v, and its own label?
+fn own(label: &[u32], v: usize) -> bool
+    requires { ⌜ v < length (now label) ⌝ }
+    ensures { λ r. ⌜ Own (now (label .entry)) v r ⌝ }
+{
+    let l = label[v] as usize;
+    if v < l {
+        return false;
+    }
+    let x = label[l] as usize;
+    x == l
+}
+
+// Is that so for every vertex?
+pub fn own_labels(n: usize, label: &[u32]) -> bool
+    requires { ⌜ length (now label) ≡ n ⌝ }
+    ensures { λ r. ⌜ Owned n (now (label .entry)) r ⌝ }
+{
+    let mut v = 0;
+    while v < n {
+        if !own(label, v) {
+            return false;
+        }
+        v += 1;
+    }
+    true
+}
+
+// Each vertex gets the colour of its class, n + 1 + its label: no distance is as high.
+fn colour(n: usize, label: &[u32], w: &mut [u32], b: usize)
+    requires { ⌜ ColourAsk n (now label) b (now w) ⌝ }
+    ensures { λ _. ⌜ Coloured n (now (label .entry)) b n (now (w .entry)) (now (w .exit)) ⌝ }
+{
+    let mut v = 0;
+    while v < n {
+        w[b + v] = (n + 1) as u32 + label[v];
+        v += 1;
+    }
+}
+
+// If l is a label, the vertices of its class get their distances from it.
+fn class(
+    from: &[u32],
+    to: &[u32],
+    n: usize,
+    label: &[u32],
+    w: &mut [u32],
+    ix: usize,
+    b: usize,
+    l: usize,
+)
+    requires { ⌜ ClassAsk (graph n (now from) (now to)) (now label) ix b l (now w) × (l < n) ⌝ }
+    ensures { λ _. ⌜ Classed (graph n (now (from .entry)) (now (to .entry))) (now (label .entry)) b (l + 1) (now (w .entry)) (now (w .exit)) ⌝ }
+{
+    let x = label[l] as usize;
+    if x != l {
+        return;
+    }
+    measuring::measure(from, to, n, w, ix, b, l, (n + 1 + l) as u32);
+}
+
+// One class after the other.
+fn classes(from: &[u32], to: &[u32], n: usize, label: &[u32], w: &mut [u32], ix: usize, b: usize)
+    requires { ⌜ ClassAsk (graph n (now from) (now to)) (now label) ix b 0 (now w) ⌝ }
+    ensures { λ _. ⌜ Classed (graph n (now (from .entry)) (now (to .entry))) (now (label .entry)) b n (now (w .entry)) (now (w .exit)) ⌝ }
+{
+    let mut l = 0;
+    while l < n {
+        class(from, to, n, label, w, ix, b, l);
+        l += 1;
+    }
+}
+
+// Has every vertex a distance?
+fn found(n: usize, w: &[u32], b: usize) -> bool
+    requires { ⌜ b + n ≤ length (now w) ⌝ }
+    ensures { λ r. ⌜ AllFound n b (now (w .entry)) r ⌝ }
+{
+    let mut v = 0;
+    while v < n {
+        let x = w[b + v] as usize;
+        if n < x {
+            return false;
+        }
+        v += 1;
+    }
+    true
+}
+
+// The distances from the labels; false if some vertex is not reached inside its class.
+pub fn distances(
+    from: &[u32],
+    to: &[u32],
+    n: usize,
+    label: &[u32],
+    w: &mut [u32],
+    ix: usize,
+    b: usize,
+) -> bool
+    requires { ⌜ DistancesAsk (graph n (now from) (now to)) (now label) ix b (now w) ⌝ }
+    ensures { λ r. ⌜ Measured (graph n (now (from .entry)) (now (to .entry))) (now (label .entry)) b (now (w .entry)) (now (w .exit)) r ⌝ }
+{
+    colour(n, label, w, b);
+    classes(from, to, n, label, w, ix, b);
+    found(n, w, b)
+}

@@ -1,0 +1,183 @@
+-- Before peeling: the counts, and the queue of what waits for nothing.
+use Prim.Native.Nat.{ℕ, _+_, _*_, _≤_, _<_}
+use native.Mathlib.Omega.{arith}
+use native.Mathlib.Decide.{ℕ-discrete}
+use mathlib.Core.Path.{_≡_, refl, sym, ap, _∙_}
+use mathlib.Core.Logic.{_⊎_, inl, inr, by-cases}
+use mathlib.Core.Bool.{true, false, not, _&&_}
+use mathlib.Core.List.{List}
+use lib.ListN.{length, getD, set}
+use lib.Seq.{getD-set-same, getD-set-other}
+use lib.Dec.{eqb}
+use borrow.Author.Tests.{eq-eqb, ne-eqb}
+use Rattle.graph.specs.Graph.{Graph, edges, to}
+use Rattle.graph.specs.Numbers.{many}
+use Rattle.graph.specs.Memory.{Framed}
+use Rattle.graph.proofs.Memory.{framed-none, framed-more}
+use Rattle.graph.proofs.Counts.{many-le}
+use Rattle.graph.proofs.Ranges.{many-ext, many-next}
+use Rattle.regions.specs.Regions.{region, queueAt, inEdges, ranksAt, countsAt, Holds, Filled}
+use Rattle.index.proofs.Moved.{indexed-kept}
+use Rattle.ranks.specs.Ranks.{lead, awaited, Peeled, Stuck}
+use Rattle.ranks.specs.Peel.{Counted, Freed, Frees, Peels, RanksAsk, Ranking, PeelAsk, AfterPeel, Ended, Ranked}
+use Rattle.regions.proofs.Storing.{set-framed}
+use Rattle.ranks.proofs.Settling.{lead-same, ranking-more}
+
+-- the leads of the first e edges are counted
+pub record Tallied (L : ℕ → ℕ) (c n e : ℕ) (w₀ w : List ℕ) : Type 0 where
+  pub framed : Framed c (c + (n + 1)) w₀ w
+  pub each : (v : ℕ) → v < n + 1 → getD w (c + v) 0 ≡ many (λ x. eqb (L x) v && not false) e
+
+module _ (L : ℕ → ℕ) (c n : ℕ) (w₀ : List ℕ) where
+  pub tally-none : ((v : ℕ) → v < n + 1 → getD w₀ (c + v) 0 ≡ 0) → Tallied L c n 0 w₀ w₀
+  unfolding many
+  tally-none z = record { framed = framed-none c (c + (n + 1)) w₀; each = z }
+
+  pub tally-few : (e : ℕ) (w : List ℕ) → Tallied L c n e w₀ w → (v : ℕ) → v < n + 1 → getD w (c + v) 0 ≤ e
+  tally-few e w x v l = omega (arith, x .each v l, many-le (λ x. eqb (L x) v && not false) e)
+
+  pub tally-step : (e : ℕ) (w : List ℕ) → Tallied L c n e w₀ w → (t : ℕ) → t ≡ L e → t < n + 1 → c + (n + 1) ≤ length w
+      → Tallied L c n (e + 1) w₀ (set w (c + t) (getD w (c + t) 0 + 1))
+  tally-step e w x t q l room =
+      record {
+        framed = framed-more (x .framed) (set-framed w c (c + (n + 1)) (c + t) (getD w (c + t) 0 + 1) (omega arith) (omega arith));
+        each = λ v m. rw (many-next (λ x. eqb (L x) v && not false) e) (by-cases (ℕ-discrete v t)
+            (λ z. let y : L e ≡ v = sym q ∙ sym z in
+            rw (eq-eqb (L e) v y, z, getD-set-same w (c + t) (getD w (c + t) 0 + 1) 0 (omega arith)) (omega (arith, x .each t l)))
+            (λ o. rw (ne-eqb (L e) v (λ y. o (sym y ∙ sym q)), getD-set-other w (c + t) (c + v) (getD w (c + t) 0 + 1) 0 (λ z. o (omega arith)), x .each v m) (omega arith)));
+      }
+
+-- the counts of the leads are what is awaited
+pub tally-all : (g : Graph) (lab : List ℕ) (b : ℕ) (w w₀ w′ : List ℕ) → ((e : ℕ) → e < edges g → to g e < g .n)
+    → Filled (countsAt (g .n) b) (g .n + 1) 0 w w₀ → Tallied (lead g lab (region (inEdges (g .n) b) w₀)) (countsAt (g .n) b) (g .n) (edges g) w₀ w′ → Counted g lab b w w′
+unfolding awaited
+tally-all g lab b w w₀ w′ low f x =
+    record {
+      framed = framed-more (f .framed) (x .framed);
+      counts = λ inEdge h v l. x .each v (omega arith) ∙ many-ext _ _ (edges g) (λ e m.
+          rw (lead-same g lab (region (inEdges (g .n) b) w₀) inEdge e (f .framed .low (inEdges (g .n) b + to g e) (omega (arith, low e m)) ∙ h (to g e) (low e m))));
+    }
+
+module _ (n b : ℕ) (w₀ : List ℕ) where
+  abbrev count : ℕ → ℕ
+  count = region (countsAt n b) w₀
+
+  pub frees-none : Frees n b 0 w₀ w₀ 0
+  unfolding many
+  frees-none =
+      record {
+        framed = framed-none (queueAt n b) (inEdges n b) w₀;
+        size = refl;
+        member = λ i l. absurd (omega arith);
+        listed = λ v l. absurd (omega arith);
+        once = λ i j l m. absurd (omega arith);
+      }
+
+  module _ (v : ℕ) (w : List ℕ) (k : ℕ) (x : Frees n b v w₀ w k) (low : v < n) (fits : b + 7 * n + 1 ≤ length w₀) where
+    pub frees-room : k < n
+    frees-room = omega (arith, x .size, many-le (λ v. eqb (count v) 0) v)
+
+    pub frees-fits : b + 7 * n + 1 ≤ length w
+    frees-fits = omega (arith, x .framed .long)
+
+    same-count : region (countsAt n b) w v ≡ count v
+    same-count = x .framed .high (countsAt n b + v) (omega arith)
+
+    pub frees-step : (w′ : List ℕ) (k′ : ℕ) → Freed n b v k w w′ k′ → Frees n b (v + 1) w₀ w′ k′
+    frees-step w′ k′ (inl (o, p, q)) =
+        rw (p, q)
+        (record {
+          framed = x .framed;
+          size = rw (many-next (λ v. eqb (count v) 0) v, ne-eqb (count v) 0 (λ z. o (same-count ∙ z))) (omega (arith, x .size));
+          member = λ i l. let (m, z) = x .member i l in (omega arith, z);
+          listed = λ u l z. x .listed u (other u l z) z;
+          once = x .once;
+        })
+      where
+        other : (u : ℕ) → u < v + 1 → count u ≡ 0 → u < v
+        other u l z = by-cases (ℕ-discrete u v) (λ y. absurd (o (same-count ∙ rw y at z))) (λ y. omega arith)
+    frees-step w′ k′ (inr (z, p, q)) =
+        rw (p, q)
+        (record {
+          framed = framed-more (x .framed) (set-framed w (queueAt n b) (inEdges n b) (queueAt n b + k) v (omega arith) (omega (arith, frees-room)));
+          size = rw (many-next (λ v. eqb (count v) 0) v, eq-eqb (count v) 0 zero-now) (omega (arith, x .size));
+          member = λ i l. by-cases (ℕ-discrete i k) (λ y. rw (y, here) (omega arith, zero-now)) (λ o. rw (before i (omega arith)) (let (m, t) = x .member i (omega arith) in (omega arith, t)));
+          listed = λ u l t. by-cases (ℕ-discrete u v) (λ y. (k, omega arith, here ∙ sym y)) (λ o. let (i, m, s) = x .listed u (omega arith) t in (i, omega arith, before i m ∙ s));
+          once = λ i j l m s. by-cases (ℕ-discrete j k)
+              (λ y. let t : region (queueAt n b) w i ≡ v = sym (before i (omega arith)) ∙ s ∙ ap (region (queueAt n b) (set w (queueAt n b + k) v)) y ∙ here in omega (arith, x .member i (omega arith) .0))
+              (λ o. x .once i j l (omega arith) (sym (before i (omega arith)) ∙ s ∙ before j (omega arith)));
+        })
+      where
+        zero-now : count v ≡ 0
+        zero-now = sym same-count ∙ z
+
+        here : region (queueAt n b) (set w (queueAt n b + k) v) k ≡ v
+        here = getD-set-same w (queueAt n b + k) v 0 (omega (arith, frees-room, frees-fits))
+
+        before : (i : ℕ) → i < k → region (queueAt n b) (set w (queueAt n b + k) v) i ≡ region (queueAt n b) w i
+        before i l = getD-set-other w (queueAt n b + k) (queueAt n b + i) v 0 (λ y. omega arith)
+
+-- The counts, an empty set of edges gone, and the queue: peeling may begin.
+module _ {g : Graph} {lab : List ℕ} {b : ℕ} {w w₁ w₂ w₃ : List ℕ} {k : ℕ} (a : RanksAsk g lab b w)
+    (f : Filled (ranksAt (g .n) b) (g .n) 0 w w₁) (c : Counted g lab b w₁ w₂) (q : Frees (g .n) b (g .n) w₂ w₃ k) where
+  pub begin-frame : Ranking (g .n) b w w₃
+  begin-frame =
+      record {
+        long = q .framed .long ∙ c .framed .long ∙ f .framed .long;
+        low = λ j l. q .framed .low j (omega arith) ∙ c .framed .low j (omega arith) ∙ f .framed .low j (omega arith);
+        mid = λ j l m. q .framed .high j (omega arith) ∙ c .framed .low j (omega arith) ∙ f .framed .low j (omega arith);
+        high = λ j l. q .framed .high j (omega arith) ∙ c .framed .high j (omega arith) ∙ f .framed .high j (omega arith);
+      }
+
+  module _ (inEdge : ℕ → ℕ) (h : Holds (g .n) (inEdges (g .n) b) inEdge w) where
+    counts-now : (v : ℕ) → v < g .n → region (countsAt (g .n) b) w₃ v ≡ region (countsAt (g .n) b) w₂ v
+    counts-now v l = q .framed .high (countsAt (g .n) b + v) (omega arith)
+
+    ranks-now : (v : ℕ) → v < g .n → region (ranksAt (g .n) b) w₃ v ≡ 0
+    ranks-now v l = q .framed .high (ranksAt (g .n) b + v) (omega arith) ∙ c .framed .low (ranksAt (g .n) b + v) (omega arith) ∙ f .each v l
+
+    begin-peels : Peels g lab inEdge (λ x. false) b w₃ k 0
+    begin-peels =
+        record {
+          counts = λ v l. counts-now v l ∙ c .counts inEdge (λ v l. f .framed .low (inEdges (g .n) b + v) (omega arith) ∙ h v l) v l;
+          member = λ i l. let (m, z) = q .member i l in (m, counts-now _ m ∙ z);
+          listed = λ v l z. q .listed v l (sym (counts-now v l) ∙ z);
+          once = q .once;
+          size = q .size ∙ many-ext _ _ (g .n) (λ v l. rw (counts-now v l));
+          settled = λ e m t. absurd t;
+          raised = λ e m t. absurd t;
+          attained = λ v l. inl (ranks-now v l);
+          bounded = λ v l. omega (arith, ranks-now v l);
+        }
+
+    pub begin : PeelAsk g lab b k w₃
+    begin =
+        record {
+          ground =
+              record {
+                valid = a .ground .valid;
+                size = a .ground .size;
+                labels-low = a .ground .labels-low;
+                small = a .ground .small;
+                few = a .ground .few;
+                fits = omega (arith, a .ground .fits, begin-frame .long);
+              };
+          index = indexed-kept (g .src) (g .n) 0 w w₃ (a .ground .valid .from-low) (λ j l m. begin-frame .low j (omega (arith, a .below))) (a .index);
+          below = a .below;
+          inEdge = inEdge;
+          holds = λ v l. begin-frame .mid (inEdges (g .n) b + v) (omega arith) (omega arith) ∙ h v l;
+          peels = begin-peels;
+        }
+
+  pub ranks-end : (w′ : List ℕ) (k′ : ℕ) → AfterPeel g lab b k w₃ w′ k′ → Ranked g lab b w w′ (eqb k′ (g .n))
+  unfolding begin
+  ranks-end w′ k′ x =
+      record {
+        frame = ranking-more begin-frame (x .frame);
+        either = λ inEdge h. by inEdge (x .ended (begin inEdge h));
+      }
+    where
+      by : (inEdge : ℕ → ℕ) → Ended g lab b w′ k′ inEdge
+          → ((eqb k′ (g .n) ≡ true) × Peeled g lab inEdge (region (ranksAt (g .n) b) w′)) ⊎ ((eqb k′ (g .n) ≡ false) × Stuck g lab inEdge (region (countsAt (g .n) b) w′))
+      by inEdge (inl (z, p)) = inl (eq-eqb k′ (g .n) z, p)
+      by inEdge (inr (l, s)) = inr (ne-eqb k′ (g .n) (λ z. omega arith), s)

@@ -1,0 +1,103 @@
+use Prim.Native.Nat.{_≤_, _-_, _+_, _*_}
+use native.Mathlib.Omega.{arith}
+use lib.ListN.{getD}
+use Rattle.graph.specs.Graph.{graph}
+use Rattle.ranks.specs.Peel.{Ranking, PeelAsk, Taken}
+use Rattle.ranks.proofs.Taking.{take-none, queue-few, u-low, take-ask-read, take-step-read, take-end}
+use Rattle.ranks.proofs.Settling.{ranking-none}
+use Rattle.ranks.proofs.peel.Statement.{statement}
+use Rattle.ranks.proofs.peel.Tie as tie
+
+abbrev Inv-loop : tie.InvT-loop
+Inv-loop sources targets n label w₀ b k0 k₀ h₀ w k h = (h ≤ k) × Ranking n b w₀ w × ((a : PeelAsk (graph n sources targets) label b k0 w₀) → Taken (graph n sources targets) label b h w k (a .inEdge))
+
+abbrev μ-loop : tie.MeasureT-loop
+μ-loop sources targets n label w₀ b k0 k₀ h₀ w k h = n - h
+
+loop-holds : tie.Need-loop-holds Inv-loop μ-loop
+loop-holds c = let s = (c .before .before .before .before) in (omega arith, ranking-none (s .args .n) (s .args .b) (s .args .w .now), λ a. take-none a)
+
+mul-u : tie.Need-mul-u Inv-loop μ-loop
+mul-u c = let s = (c .before .before .before .before .before .before) in let l = c .before .loop in omega (arith, s .pre .ground .fits, s .pre .ground .small, l .inv .1 .long, queue-few (s .pre) (l .inv .2 (s .pre)), s .pre .below)
+
+add-u : tie.Need-add-u Inv-loop μ-loop
+add-u c = let s = (c .before .before .before .before .before .before) in let l = c .before .loop in omega (arith, s .pre .ground .fits, s .pre .ground .small, l .inv .1 .long, queue-few (s .pre) (l .inv .2 (s .pre)), s .pre .below)
+
+add-u-2 : tie.Need-add-u-2 Inv-loop μ-loop
+add-u-2 c = let s = (c .before .before .before .before .before .before) in let l = c .before .loop in omega (arith, s .pre .ground .fits, s .pre .ground .small, l .inv .1 .long, queue-few (s .pre) (l .inv .2 (s .pre)), s .pre .below)
+
+mul-u-2 : tie.Need-mul-u-2 Inv-loop μ-loop
+mul-u-2 c = let s = (c .before .before .before .before .before .before) in let l = c .before .loop in omega (arith, s .pre .ground .fits, s .pre .ground .small, l .inv .1 .long, queue-few (s .pre) (l .inv .2 (s .pre)), s .pre .below)
+
+slice-read-u : tie.Need-slice-read-u Inv-loop μ-loop
+slice-read-u c = let s = (c .before .before .before .before .before .before .before) in let l = c .before .before .loop in omega (arith, s .pre .ground .fits, s .pre .ground .small, l .inv .1 .long, queue-few (s .pre) (l .inv .2 (s .pre)), s .pre .below)
+
+cast-u : tie.Need-cast-u Inv-loop μ-loop
+cast-u c = omega (arith, c .slice-known2 .given (c .before .before .before .before .before .before .before .args .b + 2 * c .before .before .before .before .before .before .before .args .n + c .before .before .loop .h))
+
+mul-s : tie.Need-mul-s Inv-loop μ-loop
+mul-s c = let s = (c .before .before .before .before .before .before .before) in let l = c .before .before .loop in omega (arith, s .pre .ground .fits, s .pre .ground .small, l .inv .1 .long, queue-few (s .pre) (l .inv .2 (s .pre)), s .pre .below, u-low (s .pre) (l .h) (l .k) (l .w) (l .inv .1) (l .inv .2 (s .pre)) (c .before .loop-test .taken))
+
+slice-read-s : tie.Need-slice-read-s Inv-loop μ-loop
+slice-read-s c = let s = (c .before .before .before .before .before .before .before .before) in let l = c .before .before .before .loop in omega (arith, s .pre .ground .fits, s .pre .ground .small, l .inv .1 .long, queue-few (s .pre) (l .inv .2 (s .pre)), s .pre .below, u-low (s .pre) (l .h) (l .k) (l .w) (l .inv .1) (l .inv .2 (s .pre)) (c .before .before .loop-test .taken))
+
+cast-s : tie.Need-cast-s Inv-loop μ-loop
+cast-s c = omega (arith, c .slice-known3 .given (getD (c .before .before .before .loop .w) (c .before .before .before .before .before .before .before .before .args .b + 2 * c .before .before .before .before .before .before .before .before .args .n + c .before .before .before .loop .h) 0))
+
+add-t : tie.Need-add-t Inv-loop μ-loop
+add-t c = let s = (c .before .before .before .before .before .before .before .before) in let l = c .before .before .before .loop in omega (arith, s .pre .ground .fits, s .pre .ground .small, l .inv .1 .long, queue-few (s .pre) (l .inv .2 (s .pre)), s .pre .below, u-low (s .pre) (l .h) (l .k) (l .w) (l .inv .1) (l .inv .2 (s .pre)) (c .before .before .loop-test .taken))
+
+mul-t : tie.Need-mul-t Inv-loop μ-loop
+mul-t c = let s = (c .before .before .before .before .before .before .before .before) in let l = c .before .before .before .loop in omega (arith, s .pre .ground .fits, s .pre .ground .small, l .inv .1 .long, queue-few (s .pre) (l .inv .2 (s .pre)), s .pre .below, u-low (s .pre) (l .h) (l .k) (l .w) (l .inv .1) (l .inv .2 (s .pre)) (c .before .before .loop-test .taken))
+
+slice-read-t : tie.Need-slice-read-t Inv-loop μ-loop
+slice-read-t c = let s = (c .before .before .before .before .before .before .before .before .before) in let l = c .before .before .before .before .loop in omega (arith, s .pre .ground .fits, s .pre .ground .small, l .inv .1 .long, queue-few (s .pre) (l .inv .2 (s .pre)), s .pre .below, u-low (s .pre) (l .h) (l .k) (l .w) (l .inv .1) (l .inv .2 (s .pre)) (c .before .before .before .loop-test .taken))
+
+cast-t : tie.Need-cast-t Inv-loop μ-loop
+cast-t c = omega (arith, c .slice-known4 .given (getD (c .before .before .before .before .loop .w) (c .before .before .before .before .before .before .before .before .before .args .b + 2 * c .before .before .before .before .before .before .before .before .before .args .n + c .before .before .before .before .loop .h) 0 + 1))
+
+scan-requires : tie.Need-scan-requires Inv-loop μ-loop
+scan-requires c κs = let s = (c .before .before .before .before .before .before .before .before .before .before) in let l = c .before .before .before .before .before .loop in take-ask-read (s .pre) (l .h) (l .k) (l .w) (l .inv .1) (l .inv .2 (s .pre)) (c .before .before .before .before .loop-test .taken)
+
+add-h : tie.Need-add-h Inv-loop μ-loop
+add-h c = let s = (c .before .before .before .before .before .before .before .before .before .before .before .before .before) in let l = c .before .before .before .before .before .before .before .before .loop in omega (arith, s .pre .ground .fits, s .pre .ground .small, l .inv .1 .long, queue-few (s .pre) (l .inv .2 (s .pre)), s .pre .below)
+
+loop-less : tie.Need-loop-less Inv-loop μ-loop
+loop-less c = let s = (c .before .before .before .before .before .before .before .before .before .before .before .before .before) in let l = c .before .before .before .before .before .before .before .before .loop in omega (arith, s .pre .ground .fits, s .pre .ground .small, l .inv .1 .long, queue-few (s .pre) (l .inv .2 (s .pre)), s .pre .below)
+
+loop-again : tie.Need-loop-again Inv-loop μ-loop
+loop-again c = let s = (c .before .before .before .before .before .before .before .before .before .before .before .before .before) in let l = c .before .before .before .before .before .before .before .before .loop in let y = take-step-read (s .pre) (l .h) (l .k) (l .w) (l .inv .1) (l .inv .2 (s .pre)) (c .before .before .before .before .before .before .before .loop-test .taken) _ _ (c .before .before .scan .ensures) in
+    (omega (arith, y .2), y .0, λ a. take-step-read a (l .h) (l .k) (l .w) (l .inv .1) (l .inv .2 a) (c .before .before .before .before .before .before .before .loop-test .taken) _ _ (c .before .before .scan .ensures) .1)
+
+same-length : tie.Need-same-length Inv-loop μ-loop
+same-length c = c .before .loop .inv .1 .long
+
+returns : tie.Need-returns Inv-loop μ-loop
+returns c = let s = (c .before .before .before .before .before .before) in let l = c .before .loop in record { frame = l .inv .1; ended = λ a. take-end a (l .h) (l .k) (l .w) (l .inv .2 a) (c .loop-test .left) }
+
+pub peel-spec : {M : Type 1} → statement M
+peel-spec =
+    tie.close
+    (tie.spec
+    Inv-loop
+    μ-loop
+    loop-holds
+    mul-u
+    add-u
+    add-u-2
+    mul-u-2
+    slice-read-u
+    cast-u
+    mul-s
+    slice-read-s
+    cast-s
+    add-t
+    mul-t
+    slice-read-t
+    cast-t
+    scan-requires
+    add-h
+    loop-less
+    loop-again
+    same-length
+    returns)

@@ -1,0 +1,72 @@
+use mathlib.Core.Path.{_≡_}
+use Prim.Native.Nat.{_≤_, _-_, _+_}
+use native.Mathlib.Omega.{arith}
+use Rattle.graph.specs.Graph.{graph}
+use Rattle.graph.specs.Checker.{at}
+use Rattle.ranks.specs.Peel.{ScanAsk, Scanned}
+use Rattle.ranks.proofs.Scanning.{scan-none, scan-ask, scan-step}
+use Rattle.ranks.proofs.scan.Statement.{statement}
+use Rattle.ranks.proofs.scan.Tie as tie
+
+abbrev Inv-loop : tie.InvT-loop
+Inv-loop sources targets n label w₀ b s t u k0 k₀ j₀ w k j = (s ≤ j) × (j ≤ t) × ((a : ScanAsk (graph n sources targets) label b s t u k0 w₀) → Scanned (graph n sources targets) label b s j k0 w₀ w k (a .course))
+
+abbrev μ-loop : tie.MeasureT-loop
+μ-loop sources targets n label w₀ b s t u k0 k₀ j₀ w k j = t - j
+
+loop-holds : tie.Need-loop-holds Inv-loop μ-loop
+loop-holds c = (omega arith, c .before .before .before .before .pre .order, λ a. scan-none a)
+
+add-e : tie.Need-add-e Inv-loop μ-loop
+add-e c = let s = (c .before .before .before .before .before .before) in omega (arith, s .pre .below, s .pre .ground .fits, c .before .loop .inv .2 (s .pre) .onward .frame .long)
+
+add-e-2 : tie.Need-add-e-2 Inv-loop μ-loop
+add-e-2 c = let s = (c .before .before .before .before .before .before) in omega (arith, s .pre .below, s .pre .ground .fits, c .before .loop .inv .2 (s .pre) .onward .frame .long)
+
+mul-e : tie.Need-mul-e Inv-loop μ-loop
+mul-e c = let s = (c .before .before .before .before .before .before) in omega (arith, s .pre .below, s .pre .ground .fits, c .before .loop .inv .2 (s .pre) .onward .frame .long)
+
+slice-read-e : tie.Need-slice-read-e Inv-loop μ-loop
+slice-read-e c = let s = (c .before .before .before .before .before .before .before) in omega (arith, s .pre .below, s .pre .ground .fits, c .before .before .loop .inv .2 (s .pre) .onward .frame .long)
+
+cast-e : tie.Need-cast-e Inv-loop μ-loop
+cast-e c = omega (arith, c .slice-known2 .given (c .before .before .before .before .before .before .before .args .n + 1 + c .before .before .loop .j))
+
+settle-requires : tie.Need-settle-requires Inv-loop μ-loop
+settle-requires c κs = let s = (c .before .before .before .before .before .before .before .before) in let l = c .before .before .before .loop in scan-ask (s .pre) (l .j) (l .w) (l .k) (l .inv .2 (s .pre)) (l .inv .0) (c .before .before .loop-test .taken)
+
+add-j : tie.Need-add-j Inv-loop μ-loop
+add-j c = omega arith
+
+loop-less : tie.Need-loop-less Inv-loop μ-loop
+loop-less c = omega arith
+
+loop-again : tie.Need-loop-again Inv-loop μ-loop
+loop-again c = let s = (c .before .before .before .before .before .before .before .before .before .before .before) in let l = c .before .before .before .before .before .before .loop in (omega arith, omega arith, λ a. scan-step a (l .j) (l .w) (l .k) (l .inv .2 a) (l .inv .0) (c .before .before .before .before .before .loop-test .taken) _ _ (c .before .before .settle .ensures))
+
+same-length : tie.Need-same-length Inv-loop μ-loop
+same-length c = let s = (c .before .before .before .before .before .before) in c .before .loop .inv .2 (s .pre) .onward .frame .long
+
+returns : tie.Need-returns Inv-loop μ-loop
+returns c = let s = (c .before .before .before .before .before .before) in let l = c .before .loop in
+    let e : l .j ≡ s .args .t = omega arith in
+    λ a. rw e at (l .inv .2 a)
+
+pub scan-spec : {M : Type 1} → statement M
+scan-spec =
+    tie.close
+    (tie.spec
+    Inv-loop
+    μ-loop
+    loop-holds
+    add-e
+    add-e-2
+    mul-e
+    slice-read-e
+    cast-e
+    settle-requires
+    add-j
+    loop-less
+    loop-again
+    same-length
+    returns)

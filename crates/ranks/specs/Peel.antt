@@ -1,0 +1,156 @@
+-- What the steps of peeling ask for, and what they promise.
+use Prim.Native.Nat.{ℕ, _+_, _-_, _*_, _≤_, _<_}
+use mathlib.Core.Path.{_≡_}
+use mathlib.Core.Bool.{Bool, true, false}
+use mathlib.Core.List.{List}
+use mathlib.Core.Logic.{_⊎_}
+use lib.ListN.{length, getD, set}
+use lib.Dec.{T, eqb}
+use Rattle.graph.specs.Numbers.{many}
+use Rattle.graph.specs.Memory.{Framed}
+use Rattle.graph.specs.Graph.{Graph, Valid, edges, from}
+use Rattle.graph.specs.Limits.{mostVertices, mostEdges}
+use Rattle.graph.specs.Checker.{at}
+use Rattle.index.specs.Index.{Indexed}
+use Rattle.regions.specs.Regions.{region, queueAt, inEdges, ranksAt, countsAt, Holds}
+use Rattle.ranks.specs.Ranks.{awaited, Peeling, extend, extends, Peeled, Stuck}
+
+-- the table, its labels, and room for the regions
+pub record Ground (g : Graph) (lab : List ℕ) (b : ℕ) (w : List ℕ) : Type 0 where
+  pub valid : Valid g
+  pub size : length lab ≡ g .n
+  pub labels-low : (v : ℕ) → v < g .n → at lab v < g .n
+  pub small : g .n ≤ mostVertices
+  pub few : edges g ≤ mostEdges
+  pub fits : b + 7 * g .n + 1 ≤ length w
+
+pub record EdgeAsk (g : Graph) (lab : List ℕ) (b e : ℕ) (w : List ℕ) : Type 0 where
+  pub ground : Ground g lab b w
+  pub low : e < edges g
+
+-- only the queue, the ranks and the counts may have changed
+pub record Ranking (n b : ℕ) (w w' : List ℕ) : Type 0 where
+  pub long : length w' ≡ length w
+  pub low : (j : ℕ) → j < queueAt n b → getD w' j 0 ≡ getD w j 0
+  pub mid : (j : ℕ) → inEdges n b ≤ j → j < ranksAt n b → getD w' j 0 ≡ getD w j 0
+  pub high : (j : ℕ) → countsAt n b + n + 1 ≤ j → getD w' j 0 ≡ getD w j 0
+
+-- the regions of w are in the course of peeling
+abbrev pub Peels : Graph → List ℕ → (ℕ → ℕ) → (ℕ → Bool) → ℕ → List ℕ → ℕ → ℕ → Type 0
+Peels g lab inEdge done b w k top =
+    Peeling g lab inEdge done (region (countsAt (g .n) b) w) (region (ranksAt (g .n) b) w) (region (queueAt (g .n) b) w) k top
+
+-- what is not seen in memory: the in-edges as a function, the edges that are gone, the highest rank so far
+pub record Course (g : Graph) (lab : List ℕ) (b k : ℕ) (w : List ℕ) : Type 0 where
+  pub inEdge : ℕ → ℕ
+  pub done : ℕ → Bool
+  pub top : ℕ
+  pub holds : Holds (g .n) (inEdges (g .n) b) inEdge w
+  pub peels : Peels g lab inEdge done b w k top
+  pub top-low : top ≤ g .n
+
+pub record SettleAsk (g : Graph) (lab : List ℕ) (b e k : ℕ) (w : List ℕ) : Type 0 where
+  pub ground : Ground g lab b w
+  pub course : Course g lab b k w
+  pub low : e < edges g
+  pub fresh : course .done e ≡ false
+  pub source : region (countsAt (g .n) b) w (from g e) ≡ 0
+  pub bound : region (ranksAt (g .n) b) w (from g e) < course .top
+
+-- the queue grew, and what waited for nothing keeps its rank and waits for nothing
+pub record Onward (n b k : ℕ) (w w' : List ℕ) (k' : ℕ) : Type 0 where
+  pub frame : Ranking n b w w'
+  pub more : k ≤ k'
+  pub front : (i : ℕ) → i < k → region (queueAt n b) w' i ≡ region (queueAt n b) w i
+  pub still : (v : ℕ) → v < n → region (countsAt n b) w v ≡ 0
+      → (region (countsAt n b) w' v ≡ 0) × (region (ranksAt n b) w' v ≡ region (ranksAt n b) w v)
+
+pub record Settled (g : Graph) (lab : List ℕ) (b e k : ℕ) (w w' : List ℕ) (k' : ℕ) (c : Course g lab b k w) : Type 0 where
+  pub onward : Onward (g .n) b k w w' k'
+  pub peels : Peels g lab (c .inEdge) (extend (c .done) e) b w' k' (c .top)
+
+abbrev pub AfterSettle : Graph → List ℕ → (b e k : ℕ) → List ℕ → List ℕ → ℕ → Type 0
+AfterSettle g lab b e k w w' k' = (a : SettleAsk g lab b e k w) → Settled g lab b e k w w' k' (a .course)
+
+-- the edge numbers at the places s .. t - 1 of the forward index are those of u, which waits for nothing
+pub record ScanAsk (g : Graph) (lab : List ℕ) (b s t u k : ℕ) (w : List ℕ) : Type 0 where
+  pub ground : Ground g lab b w
+  pub course : Course g lab b k w
+  pub order : s ≤ t
+  pub below : g .n + 1 + t ≤ b
+  pub vertex : u < g .n
+  pub row : (j : ℕ) → s ≤ j → j < t → (getD w (g .n + 1 + j) 0 < edges g) × (from g (getD w (g .n + 1 + j) 0) ≡ u) × (course .done (getD w (g .n + 1 + j) 0) ≡ false)
+  pub rising : (i j : ℕ) → s ≤ i → i < j → j < t → getD w (g .n + 1 + i) 0 < getD w (g .n + 1 + j) 0
+  pub source : region (countsAt (g .n) b) w u ≡ 0
+  pub bound : region (ranksAt (g .n) b) w u < course .top
+
+pub record Scanned (g : Graph) (lab : List ℕ) (b s j k : ℕ) (w w' : List ℕ) (k' : ℕ) (c : Course g lab b k w) : Type 0 where
+  pub onward : Onward (g .n) b k w w' k'
+  pub peels : Peels g lab (c .inEdge) (extends (c .done) (λ i. getD w (g .n + 1 + (s + i)) 0) (j - s)) b w' k' (c .top)
+
+abbrev pub AfterScan : Graph → List ℕ → (b s t u k : ℕ) → List ℕ → List ℕ → ℕ → Type 0
+AfterScan g lab b s t u k w w' k' = (a : ScanAsk g lab b s t u k w) → Scanned g lab b s t k w w' k' (a .course)
+
+-- nothing has gone yet, and the queue holds what waits for nothing
+pub record PeelAsk (g : Graph) (lab : List ℕ) (b k : ℕ) (w : List ℕ) : Type 0 where
+  pub ground : Ground g lab b w
+  pub index : Indexed (g .src) (g .n) 0 w
+  pub below : g .n + 1 + edges g ≤ b
+  pub inEdge : ℕ → ℕ
+  pub holds : Holds (g .n) (inEdges (g .n) b) inEdge w
+  pub peels : Peels g lab inEdge (λ x. false) b w k 0
+
+-- the vertices at the first h places of the queue have been taken, with their edges
+pub record Taken (g : Graph) (lab : List ℕ) (b h : ℕ) (w : List ℕ) (k : ℕ) (inEdge : ℕ → ℕ) : Type 0 where
+  pub done : ℕ → Bool
+  pub peels : Peels g lab inEdge done b w k h
+  pub gone : (e : ℕ) → e < edges g → T (done e) → (i : ℕ) × (i < h) × (region (queueAt (g .n) b) w i ≡ from g e)
+  pub all : (e i : ℕ) → e < edges g → i < h → region (queueAt (g .n) b) w i ≡ from g e → T (done e)
+
+-- all have gone, or some stay
+abbrev pub Ended : Graph → List ℕ → ℕ → List ℕ → ℕ → (ℕ → ℕ) → Type 0
+Ended g lab b w' k' inEdge =
+    ((k' ≡ g .n) × Peeled g lab inEdge (region (ranksAt (g .n) b) w')) ⊎ ((k' < g .n) × Stuck g lab inEdge (region (countsAt (g .n) b) w'))
+
+pub record AfterPeel (g : Graph) (lab : List ℕ) (b k : ℕ) (w w' : List ℕ) (k' : ℕ) : Type 0 where
+  pub frame : Ranking (g .n) b w w'
+  pub ended : (a : PeelAsk g lab b k w) → Ended g lab b w' k' (a .inEdge)
+
+-- the counts are what each vertex waits for, before any edge has gone
+pub record Counted (g : Graph) (lab : List ℕ) (b : ℕ) (w w' : List ℕ) : Type 0 where
+  pub framed : Framed (countsAt (g .n) b) (countsAt (g .n) b + (g .n + 1)) w w'
+  pub counts : (inEdge : ℕ → ℕ) → Holds (g .n) (inEdges (g .n) b) inEdge w → (v : ℕ) → v < g .n
+      → region (countsAt (g .n) b) w' v ≡ awaited g lab inEdge (λ x. false) v
+
+pub record FreesAsk (n b : ℕ) (w : List ℕ) : Type 0 where
+  pub small : n ≤ mostVertices
+  pub fits : b + 7 * n + 1 ≤ length w
+
+pub record FreeAsk (n b v k : ℕ) (w : List ℕ) : Type 0 where
+  pub ask : FreesAsk n b w
+  pub vertex : v < n
+  pub room : k < n
+
+abbrev pub Freed : (n b v k : ℕ) → List ℕ → List ℕ → ℕ → Type 0
+Freed n b v k w w' k' =
+    ((region (countsAt n b) w v ≡ 0 → ⊥) × (w' ≡ w) × (k' ≡ k))
+    ⊎ ((region (countsAt n b) w v ≡ 0) × (w' ≡ set w (queueAt n b + k) v) × (k' ≡ k + 1))
+
+-- the queue holds the vertices below e that wait for nothing, each once
+pub record Frees (n b e : ℕ) (w w' : List ℕ) (k : ℕ) : Type 0 where
+  pub framed : Framed (queueAt n b) (inEdges n b) w w'
+  pub size : k ≡ many (λ v. eqb (region (countsAt n b) w v) 0) e
+  pub member : (i : ℕ) → i < k → (region (queueAt n b) w' i < e) × (region (countsAt n b) w (region (queueAt n b) w' i) ≡ 0)
+  pub listed : (v : ℕ) → v < e → region (countsAt n b) w v ≡ 0 → (i : ℕ) × (i < k) × (region (queueAt n b) w' i ≡ v)
+  pub once : (i j : ℕ) → i < j → j < k → region (queueAt n b) w' i ≡ region (queueAt n b) w' j → ⊥
+
+pub record RanksAsk (g : Graph) (lab : List ℕ) (b : ℕ) (w : List ℕ) : Type 0 where
+  pub ground : Ground g lab b w
+  pub index : Indexed (g .src) (g .n) 0 w
+  pub below : g .n + 1 + edges g ≤ b
+
+-- all have gone, and the ranks are found; or some stay, whatever the counts
+pub record Ranked (g : Graph) (lab : List ℕ) (b : ℕ) (w w' : List ℕ) (r : Bool) : Type 0 where
+  pub frame : Ranking (g .n) b w w'
+  pub either : (inEdge : ℕ → ℕ) → Holds (g .n) (inEdges (g .n) b) inEdge w
+      → ((r ≡ true) × Peeled g lab inEdge (region (ranksAt (g .n) b) w')) ⊎ ((r ≡ false) × Stuck g lab inEdge (region (countsAt (g .n) b) w'))

@@ -1,0 +1,194 @@
+// Ranks by peeling: a vertex goes when no edge that it waits for is left.
+ghost use mathlib.Core.Path.{_≡_};
+ghost use Rattle.graph.specs.Graph.{graph};
+ghost use Rattle.regions.specs.Regions.{region, inEdges};
+ghost use Rattle.ranks.specs.Ranks.{lead, rise};
+ghost use Prim.Native.Nat.{_+_, _*_, _≤_};
+ghost use lib.ListN.{length};
+ghost use Rattle.ranks.specs.Peel.{Ground, Counted, FreeAsk, Freed, FreesAsk, Frees, RanksAsk, Ranked, EdgeAsk, SettleAsk, AfterSettle, ScanAsk, AfterScan, PeelAsk, AfterPeel, Ranking};
+
+// The vertex that waits for edge e, n if none does.
+fn lead(
+    sources: &[u32],
+    targets: &[u32],
+    n: usize,
+    label: &[u32],
+    w: &[u32],
+    b: usize,
+    e: usize,
+) -> usize
+    requires { ⌜ EdgeAsk (graph n (now sources) (now targets)) (now label) b e (now w) ⌝ }
+    ensures { λ r. ⌜ r ≡ lead (graph n (now (sources .entry)) (now (targets .entry))) (now (label .entry)) (region (inEdges n b) (now (w .entry))) e ⌝ }
+{
+    let u = sources[e] as usize;
+    let v = targets[e] as usize;
+    if label[u] != label[v] {
+        return label[v] as usize;
+    }
+    let x = w[b + 3 * n + v] as usize;
+    if x == e {
+        return v;
+    }
+    n
+}
+
+// How many edges each vertex waits for; place n has those that no vertex waits for.
+fn counts(sources: &[u32], targets: &[u32], n: usize, label: &[u32], w: &mut [u32], b: usize)
+    requires { ⌜ Ground (graph n (now sources) (now targets)) (now label) b (now w) ⌝ }
+    ensures { λ _. ⌜ Counted (graph n (now (sources .entry)) (now (targets .entry))) (now (label .entry)) b (now (w .entry)) (now (w .exit)) ⌝ }
+{
+    regions::fill(w, b + 6 * n, n + 1, 0);
+    let mut e = 0;
+    while e < sources.len() {
+        let t = lead(sources, targets, n, label, w, b, e);
+        w[b + 6 * n + t] = w[b + 6 * n + t] + 1;
+        e += 1;
+    }
+}
+
+// Vertex v joins the queue if it waits for nothing.
+fn free(w: &mut [u32], n: usize, b: usize, v: usize, k: usize) -> usize
+    requires { ⌜ FreeAsk n b v k (now w) ⌝ }
+    ensures { λ k'. ⌜ Freed n b v k (now (w .entry)) (now (w .exit)) k' ⌝ }
+{
+    if w[b + 6 * n + v] != 0 {
+        return k;
+    }
+    w[b + 2 * n + k] = v as u32;
+    k + 1
+}
+
+// The queue of what waits for nothing.
+fn frees(w: &mut [u32], n: usize, b: usize) -> usize
+    requires { ⌜ FreesAsk n b (now w) ⌝ }
+    ensures { λ k'. ⌜ Frees n b n (now (w .entry)) (now (w .exit)) k' ⌝ }
+{
+    let mut k = 0;
+    let mut v = 0;
+    while v < n {
+        k = free(w, n, b, v, k);
+        v += 1;
+    }
+    k
+}
+
+// By how much edge e raises the rank.
+fn rise(
+    sources: &[u32],
+    targets: &[u32],
+    n: usize,
+    label: &[u32],
+    w: &[u32],
+    b: usize,
+    e: usize,
+) -> u32
+    requires { ⌜ EdgeAsk (graph n (now sources) (now targets)) (now label) b e (now w) ⌝ }
+    ensures { λ r. ⌜ r ≡ rise (graph n (now (sources .entry)) (now (targets .entry))) (now (label .entry)) e ⌝ }
+{
+    let u = sources[e] as usize;
+    let v = targets[e] as usize;
+    if label[u] == label[v] {
+        return 0;
+    }
+    1
+}
+
+// Edge e goes: the vertex that waits for it is raised, and joins the queue if it waits for no other.
+fn settle(
+    sources: &[u32],
+    targets: &[u32],
+    n: usize,
+    label: &[u32],
+    w: &mut [u32],
+    b: usize,
+    e: usize,
+    k: usize,
+) -> usize
+    requires { ⌜ SettleAsk (graph n (now sources) (now targets)) (now label) b e k (now w) ⌝ }
+    ensures { λ k'. ⌜ AfterSettle (graph n (now (sources .entry)) (now (targets .entry))) (now (label .entry)) b e k (now (w .entry)) (now (w .exit)) k' ⌝ }
+{
+    let t = lead(sources, targets, n, label, w, b, e);
+    if t == n {
+        return k;
+    }
+    let u = sources[e] as usize;
+    let x = w[b + 5 * n + u] + rise(sources, targets, n, label, w, b, e);
+    regions::raise(w, b + 5 * n + t, x);
+    let c = w[b + 6 * n + t] - 1;
+    w[b + 6 * n + t] = c;
+    if c != 0 {
+        return k;
+    }
+    w[b + 2 * n + k] = t as u32;
+    k + 1
+}
+
+// The edges at the places s .. t - 1 of the forward index go; they leave u.
+fn scan(
+    sources: &[u32],
+    targets: &[u32],
+    n: usize,
+    label: &[u32],
+    w: &mut [u32],
+    b: usize,
+    s: usize,
+    t: usize,
+    u: usize,
+    k0: usize,
+) -> usize
+    requires { ⌜ ScanAsk (graph n (now sources) (now targets)) (now label) b s t u k0 (now w) ⌝ }
+    ensures { λ k'. ⌜ AfterScan (graph n (now (sources .entry)) (now (targets .entry))) (now (label .entry)) b s t u k0 (now (w .entry)) (now (w .exit)) k' ⌝ }
+{
+    let mut k = k0;
+    let mut j = s;
+    while j < t {
+        let e = w[n + 1 + j] as usize;
+        k = settle(sources, targets, n, label, w, b, e, k);
+        j += 1;
+    }
+    k
+}
+
+// The vertices of the queue are taken one after the other, with the edges that leave them. The queue's length.
+fn peel(
+    sources: &[u32],
+    targets: &[u32],
+    n: usize,
+    label: &[u32],
+    w: &mut [u32],
+    b: usize,
+    k0: usize,
+) -> usize
+    requires { ⌜ PeelAsk (graph n (now sources) (now targets)) (now label) b k0 (now w) ⌝ }
+    ensures { λ k'. ⌜ AfterPeel (graph n (now (sources .entry)) (now (targets .entry))) (now (label .entry)) b k0 (now (w .entry)) (now (w .exit)) k' ⌝ }
+{
+    let mut k = k0;
+    let mut h = 0;
+    while h < k {
+        let u = w[b + 2 * n + h] as usize;
+        let s = w[u] as usize;
+        let t = w[u + 1] as usize;
+        k = scan(sources, targets, n, label, w, b, s, t, u, k);
+        h += 1;
+    }
+    k
+}
+
+// The ranks; false if some vertex never goes.
+pub fn ranks(
+    sources: &[u32],
+    targets: &[u32],
+    n: usize,
+    label: &[u32],
+    w: &mut [u32],
+    b: usize,
+) -> bool
+    requires { ⌜ RanksAsk (graph n (now sources) (now targets)) (now label) b (now w) ⌝ }
+    ensures { λ r. ⌜ Ranked (graph n (now (sources .entry)) (now (targets .entry))) (now (label .entry)) b (now (w .entry)) (now (w .exit)) r ⌝ }
+{
+    regions::fill(w, b + 5 * n, n, 0);
+    counts(sources, targets, n, label, w, b);
+    let k = frees(w, n, b);
+    let all = peel(sources, targets, n, label, w, b, k);
+    all == n
+}
