@@ -30,6 +30,13 @@ static void search(uint64_t starts, uint64_t permitted, bool backward) {
     printf("search %s: %u, set %lu, %lu vertices, %lu edges\n", backward ? "backward" : "forward", no, (unsigned long)reached, (unsigned long)vertices, (unsigned long)edges);
 }
 
+static void trim(uint64_t part) {
+    uint64_t left = 0;
+    size_t vertices = 0;
+    uint32_t no = tinoweala_trim(n, sources, m, targets, m, &part, 1, &left, 1, numbers, NUMBERS, words, WORDS, &vertices);
+    printf("trim: %u, set %lu, %lu vertices\n", no, (unsigned long)left, (unsigned long)vertices);
+}
+
 static void path(size_t u, size_t v, size_t room_len) {
     uint32_t room[MOST];
     size_t length = 0;
@@ -57,6 +64,7 @@ int main(void) {
     search(8, 63, false);
     search(8, 63, true);
     search(1, 7, false);
+    trim(60);
     path(0, 4, MOST);
     path(0, 4, 3);
     path(4, 0, MOST);

@@ -92,6 +92,21 @@ uint32_t tinoweala_search(
     size_t *vertices, size_t *edges);
 
 /*
+ * Trimming: 1, 2, 3, 4, 5, 6.
+ * left becomes what is left of part when each vertex that no edge of it enters, or none leaves, is removed, again and again; a loop counts as an edge. *vertices becomes the size of
+ * left. part and left are sets, else 5.
+ */
+uint32_t tinoweala_trim(
+    size_t n,
+    const uint32_t *sources, size_t sources_len,
+    const uint32_t *targets, size_t targets_len,
+    const uint64_t *part, size_t part_len,
+    uint64_t *left, size_t left_len,
+    uint32_t *numbers, size_t numbers_len,
+    uint64_t *words, size_t words_len,
+    size_t *vertices);
+
+/*
  * The shortest path: 1, 2, 3, 4, 6, 9, 11, 12.
  * The front of room becomes the edge numbers of the shortest path from u to v in walking order, *length their number; the rest of room is as it was. Among
  * shortest paths: walk back from v, each time by the smallest edge number whose source is one step nearer to u. u = v has length 0.
@@ -105,6 +120,24 @@ uint32_t tinoweala_path(
     uint32_t *numbers, size_t numbers_len,
     uint64_t *words, size_t words_len,
     size_t *length);
+
+/*
+ * The writer of a certificate: 1, 2, 3, 4, 5, 6, 10.
+ * From the right label column it makes the other five, each n long: the ranks, shortest distances from and to the label with the smallest fitting edge numbers, TINOWEALA_NO_EDGE at a
+ * vertex that is its own label. 10: label is not the right column; the five columns are then as they were.
+ */
+uint32_t tinoweala_write_certificate(
+    size_t n,
+    const uint32_t *sources, size_t sources_len,
+    const uint32_t *targets, size_t targets_len,
+    const uint32_t *label, size_t label_len,
+    uint32_t *rank, size_t rank_len,
+    uint32_t *in_edge, size_t in_edge_len,
+    uint32_t *in_distance, size_t in_distance_len,
+    uint32_t *out_edge, size_t out_edge_len,
+    uint32_t *out_distance, size_t out_distance_len,
+    uint32_t *numbers, size_t numbers_len,
+    uint64_t *words, size_t words_len);
 
 /*
  * The checker of a certificate: 1, 2, 3, 4, 5. It gets no working memory.

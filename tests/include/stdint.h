@@ -3,3 +3,4 @@ typedef __UINT32_TYPE__ uint32_t;
 typedef __INT64_TYPE__ int64_t;
 typedef __UINT64_TYPE__ uint64_t;
 #define UINT32_C(x) x##u
+#define UINT64_C(x) x##ul

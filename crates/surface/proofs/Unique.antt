@@ -6,6 +6,8 @@ use mathlib.Core.List.{List}
 use Rattle.sets.proofs.Unique.{Words}
 use Rattle.reach.specs.Search as reach
 use Rattle.reach.proofs.Unique.{search-one}
+use Rattle.trim.specs.Promise as trim
+use Rattle.trim.proofs.Unique.{trim-one}
 use Rattle.paths.specs.Promise as paths
 use Rattle.paths.proofs.Unique.{path-one}
 use Rattle.checker.specs.Promise as checker
@@ -16,6 +18,7 @@ use Rattle.text.specs.Promise as text
 use Rattle.text.proofs.Unique.{read-one}
 use Rattle.labels.proofs.Unique.{write-one}
 use Rattle.surface.specs.Search.{Searched}
+use Rattle.surface.specs.Trim.{Trimmed}
 use Rattle.surface.specs.Path.{Walked}
 use Rattle.surface.specs.Check.{Checked}
 use Rattle.surface.specs.Summary.{Summed}
@@ -26,6 +29,14 @@ pub searched-one : (c : reach.Call) (b : Bool) (v e : ℕ) (r w ws r' w' ws' : L
     → Searched c b v e r w ws out → Searched c b v e r' w' ws' out' → (out ≡ out') × (r ≡ r') × (w ≡ w') × (ws ≡ ws')
 searched-one c b v e r w ws r' w' ws' out out' f f' p q =
     let (a, s, t, u) = search-one c b r w ws r' w' ws' (p .answer) (q .answer) f f' (p .promised) (q .promised) in
+    let x = p .gives in
+    let y = q .gives in
+    (cc, s, t, u)
+
+pub trimmed-one : (c : trim.Call) (v : ℕ) (r w ws r' w' ws' : List ℕ) (out out' : ℕ × ℕ) → Words r → Words r'
+    → Trimmed c v r w ws out → Trimmed c v r' w' ws' out' → (out ≡ out') × (r ≡ r') × (w ≡ w') × (ws ≡ ws')
+trimmed-one c v r w ws r' w' ws' out out' f f' p q =
+    let (a, s, t, u) = trim-one c r w ws r' w' ws' (p .answer) (q .answer) f f' (p .promised) (q .promised) in
     let x = p .gives in
     let y = q .gives in
     (cc, s, t, u)

@@ -1,4 +1,5 @@
 pub mod Search
+pub mod Trim
 pub mod Path
 pub mod Check
 pub mod Summary

@@ -1,8 +1,40 @@
-// On label columns and certificates: the checker and the summary.
+// On label columns and certificates: the writer, the checker and the summary.
 ghost use mathlib.Core.Path.{_≡_};
-ghost use Rattle.checker.specs.Promise.{call};
+ghost use Rattle.certificate.specs.Promise.{call as writing, lent, Promise as Certified};
+ghost use Rattle.checker.specs.Promise.{call as checking};
 ghost use Rattle.surface.specs.Check.{Checked};
 ghost use Rattle.surface.specs.Summary.{Summed};
+
+#[no_mangle]
+pub extern "C" fn tinoweala_write_certificate(
+    n: usize,
+    sources: &[u32],
+    targets: &[u32],
+    label: &[u32],
+    rank: &mut [u32],
+    in_edge: &mut [u32],
+    in_distance: &mut [u32],
+    out_edge: &mut [u32],
+    out_distance: &mut [u32],
+    numbers: &mut [u32],
+    words: &mut [u64],
+) -> u32
+    ensures { λ k. ⌜ Certified (writing n (now (sources .entry)) (now (targets .entry)) (now (label .entry)) (lent (now (rank .entry)) (now («in_edge» .entry)) (now («in_distance» .entry)) (now («out_edge» .entry)) (now («out_distance» .entry)) (now (numbers .entry)) (now (words .entry)))) k (lent (now (rank .exit)) (now («in_edge» .exit)) (now («in_distance» .exit)) (now («out_edge» .exit)) (now («out_distance» .exit)) (now (numbers .exit)) (now (words .exit))) ⌝ }
+{
+    certificate::write(
+        n,
+        sources,
+        targets,
+        label,
+        rank,
+        in_edge,
+        in_distance,
+        out_edge,
+        out_distance,
+        numbers,
+        words,
+    )
+}
 
 #[no_mangle]
 pub extern "C" fn tinoweala_check_certificate(
@@ -18,7 +50,7 @@ pub extern "C" fn tinoweala_check_certificate(
     check: &mut u32,
     place: &mut usize,
 ) -> u32
-    ensures { λ k. ⌜ Checked (call n (now (sources .entry)) (now (targets .entry)) (now (label .entry)) (now (rank .entry)) (now («in_edge» .entry)) (now («in_distance» .entry)) (now («out_edge» .entry)) (now («out_distance» .entry))) (now (check .entry)) (now (place .entry)) (k, now (check .exit), now (place .exit)) ⌝ }
+    ensures { λ k. ⌜ Checked (checking n (now (sources .entry)) (now (targets .entry)) (now (label .entry)) (now (rank .entry)) (now («in_edge» .entry)) (now («in_distance» .entry)) (now («out_edge» .entry)) (now («out_distance» .entry))) (now (check .entry)) (now (place .entry)) (k, now (check .exit), now (place .exit)) ⌝ }
 {
     match checker::check(
         n,

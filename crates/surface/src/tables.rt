@@ -2,6 +2,7 @@
 ghost use mathlib.Core.Path.{_≡_};
 ghost use Rattle.graph.specs.Refusal.{tableRefusal};
 ghost use Rattle.surface.specs.Search.{Searched};
+ghost use Rattle.surface.specs.Trim.{Trimmed};
 ghost use Rattle.surface.specs.Path.{Walked};
 
 #[no_mangle]
@@ -45,6 +46,28 @@ pub extern "C" fn tinoweala_search(
         } => {
             *vertices = v;
             *edges = e;
+            0
+        }
+    }
+}
+
+#[no_mangle]
+pub extern "C" fn tinoweala_trim(
+    n: usize,
+    sources: &[u32],
+    targets: &[u32],
+    part: &[u64],
+    left: &mut [u64],
+    numbers: &mut [u32],
+    words: &mut [u64],
+    vertices: &mut usize,
+) -> u32
+    ensures { λ k. ⌜ Trimmed (record { n = n; sources = now (sources .entry); targets = now (targets .entry); part = now (part .entry); left = now (left .entry); numbers = now (numbers .entry); words = now (words .entry) }) (now (vertices .entry)) (now (left .exit)) (now (numbers .exit)) (now (words .exit)) (k, now (vertices .exit)) ⌝ }
+{
+    match trim::trim(n, sources, targets, part, left, numbers, words) {
+        trim::Answer::Refused(k) => k,
+        trim::Answer::Done { vertices: v } => {
+            *vertices = v;
             0
         }
     }
