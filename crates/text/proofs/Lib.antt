@@ -2,4 +2,5 @@ pub mod Tables
 pub mod Head
 pub mod Edges
 pub mod Reading
+pub mod Answers
 pub mod Unique

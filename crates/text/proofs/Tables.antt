@@ -2,14 +2,15 @@
 use Prim.Native.Nat.{ℕ, zero, suc, _-_, _≤_, _<_}
 use native.Mathlib.Nat.{suc-ne-zero}
 use native.Mathlib.Omega.{arith}
-use mathlib.Core.Path.{_≡_, refl, sym, ap}
+use mathlib.Core.Path.{_≡_, refl, sym, _∙_, ap}
 use mathlib.Core.Bool.{Bool, true, false, cond, _&&_}
 use mathlib.Core.List.{List, [], _∷_, map}
 use lib.Dec.{eqb, leb}
-use lib.ListN.{length, getD}
-use borrow.Author.Tests.{eqb-true, eqb-false, leb-true, ltb-false}
-use Rattle.graph.specs.Refusal.{_or_}
-use Rattle.graph.proofs.Refusals.{or-none, given-none}
+use lib.ListN.{length, getD, length-map}
+use borrow.Author.Tests.{eqb-true, eqb-false, leb-true, ltb-false, le-ltb, eq-eqb}
+use Rattle.graph.specs.Limits.{mostVertices, mostEdges}
+use Rattle.graph.specs.Refusal.{given, _or_, tableRefusal}
+use Rattle.graph.proofs.Refusals.{or-none, given-none, outside-no}
 use Rattle.lines.specs.Pieces.{lines}
 use Rattle.lines.specs.Numbers.{Content, faulty, numbers, content}
 use Rattle.text.specs.declared.entries.Entry.{Entry}
@@ -176,3 +177,17 @@ module _ (l : Limits) (text : List ℕ) where
   pub market-sound : (t : Table) → market l text ≡ done t → Sound l t
   unfolding Fine
   market-sound t e = rw e at fine
+
+-- a table that was read passes the table check
+pub sound-passed : (l : Limits) (t : Table) → l .mostVertices ≤ mostVertices → l .mostEdges ≤ mostEdges → Sound l t → tableRefusal (t .n) (map (λ a. a .source) (t .edges)) (map (λ a. a .target) (t .edges)) ≡ 0
+unfolding tableRefusal given _or_
+sound-passed l t v e s =
+    let from = length-map (t .edges) (λ a. a .source) in
+    let to = length-map (t .edges) (λ a. a .target) in
+    rw (
+      le-ltb mostVertices (t .n) (omega (arith, s .vertices)),
+      eq-eqb (length (map (λ a. a .source) (t .edges))) (length (map (λ a. a .target) (t .edges))) (from ∙ sym to),
+      le-ltb mostEdges (length (map (λ a. a .source) (t .edges))) (omega (arith, s .few)),
+      outside-no (t .n) (map (λ a. a .source) (t .edges)) (s .sources-low),
+      outside-no (t .n) (map (λ a. a .target) (t .edges)) (s .targets-low),
+    )
