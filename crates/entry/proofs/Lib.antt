@@ -1,0 +1,4 @@
+pub mod Outcome
+pub mod Returned
+pub mod Unique
+pub mod Searching

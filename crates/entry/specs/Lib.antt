@@ -1,0 +1,2 @@
+pub mod LabelText
+pub mod Steps
