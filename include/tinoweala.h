@@ -186,6 +186,14 @@ uint32_t tinoweala_write_labels(
     uint8_t *out, size_t out_len,
     size_t *bytes);
 
+/*
+ * The package service's call, of libentry.a: a Matrix Market text of at most 512 vertices and 4,096 edges (else 1 and 3, at the size line), of any
+ * length, and room for the label file of its groups. The result is the number of bytes written, or minus the number of the refusal: 13, 14, 1, 3, 15,
+ * the first faulty line decides, then 12 if out is shorter than the file. A refusal leaves out as it was; else the rest of out is as it was.
+ * It brings its own working memory, some 100 KB of the stack.
+ */
+int64_t tinoweala_label_text(const uint8_t *text, size_t text_len, uint8_t *out, size_t out_len);
+
 #ifdef __cplusplus
 }
 #endif
