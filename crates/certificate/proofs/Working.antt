@@ -7,6 +7,7 @@ use mathlib.Core.Bool.{Bool, true, false, cond, not}
 use mathlib.Core.List.{List}
 use lib.ListN.{length, getD}
 use lib.Dec.{T, eqb}
+use borrow.Author.Tests.{not-true, not-false}
 use Rattle.graph.specs.Graph.{Graph, graph, Valid, Chain, rev, edges}
 use Rattle.graph.specs.Limits.{mostEdges}
 use Rattle.graph.specs.Checker.{at, noEdge, entry}
@@ -27,7 +28,7 @@ use Rattle.classes.proofs.Inside.{right-own, reached-inside, near-is}
 use Rattle.certificate.proofs.Right.{labels-right, rank-right}
 use Rattle.certificate.proofs.Fitting.{edge-least}
 use Rattle.certificate.proofs.Waiting.{gone-ranks, none-stays}
-use Rattle.classes.proofs.Classing.{clash, not-true-false, not-false-true}
+use Rattle.classes.proofs.Classing.{clash}
 
 -- a vertex that is not reached inside its class refutes the labels
 unreached : {g : Graph} → Valid g → (lab : List ℕ) → (v : ℕ) × (v < g .n) × ((h : ℕ) → Chain g (class lab (at lab v)) h (at lab v) v → ⊥) → Right g lab → ⊥
@@ -67,7 +68,7 @@ module _ {n : ℕ} {sources targets lab : List ℕ} {b : ℕ} {w : List ℕ} (a 
         where
           go : ((r ≡ true) × Distances g lab (region b w₂) × ((v : ℕ) → v < n → region b w₂ v < n))
               ⊎ ((r ≡ false) × ((v : ℕ) × (v < n) × ((h : ℕ) → Chain g (class lab (at lab v)) h (at lab v) v → ⊥))) → Right g lab → ⊥
-          go (inl (p, _, _)) right = clash r p (not-true-false r q)
+          go (inl (p, _, _)) right = clash r p (not-true r q)
           go (inr (_, u)) right = unreached (a .ask .valid) lab u right
 
       module _ (q : not r ≡ false) where
@@ -77,7 +78,7 @@ module _ {n : ℕ} {sources targets lab : List ℕ} {b : ℕ} {w : List ℕ} (a 
             go : ((r ≡ true) × Distances g lab (region b w₂) × ((v : ℕ) → v < n → region b w₂ v < n))
                 ⊎ ((r ≡ false) × ((v : ℕ) × (v < n) × ((h : ℕ) → Chain g (class lab (at lab v)) h (at lab v) v → ⊥))) → Distances g lab (region b w₂) × ((v : ℕ) → v < n → region b w₂ v < n)
             go (inl (_, p, l)) = (p, l)
-            go (inr (p, _)) = absurd (clash r (not-false-true r q) p)
+            go (inr (p, _)) = absurd (clash r (not-false r q) p)
 
         pub back-ask : DistancesAsk (graph n targets sources) lab (n + 1 + length sources) (b + n) w₂
         back-ask =
@@ -243,19 +244,19 @@ module _ {n : ℕ} {sources targets lab : List ℕ} {w : List ℕ} (a : WorkAsk 
   work-none r o q = record { beyond = record { long = refl; rest = λ j l. refl }; either = inr (refl, go o) }
     where
       go : Owned n lab r → Right t lab → ⊥
-      go (inl (p, _)) right = clash r p (not-true-false r q)
+      go (inl (p, _)) right = clash r p (not-true r q)
       go (inr (_, f)) right = f (right-own (a .valid) lab right)
 
   pub owned : (r : Bool) → Owned n lab r → not r ≡ false → OwnLabels n lab
   owned r (inl (_, o)) q = o
-  owned r (inr (p, _)) q = absurd (clash r (not-false-true r q) p)
+  owned r (inr (p, _)) q = absurd (clash r (not-false r q) p)
 
   module _ (own : OwnLabels n lab) (w₁ : List ℕ) (r : Bool) (x : Found t lab (base t) w w₁ r) where
     pub work-stop : not r ≡ true → Worked t lab (base t) w w₁ false
     work-stop q = record { beyond = record { long = x .beyond .long; rest = λ j l. x .beyond .rest j (omega arith) }; either = inr (refl, go (x .either)) }
       where
         go : ((r ≡ true) × Near t lab (base t) w₁) ⊎ ((r ≡ false) × (Right t lab → ⊥)) → Right t lab → ⊥
-        go (inl (p, _)) right = clash r p (not-true-false r q)
+        go (inl (p, _)) right = clash r p (not-true r q)
         go (inr (_, f)) right = f right
 
     module _ (q : not r ≡ false) where
@@ -264,7 +265,7 @@ module _ {n : ℕ} {sources targets lab : List ℕ} {w : List ℕ} (a : WorkAsk 
         where
           go : ((r ≡ true) × Near t lab (base t) w₁) ⊎ ((r ≡ false) × (Right t lab → ⊥)) → Near t lab (base t) w₁
           go (inl (_, p)) = p
-          go (inr (p, _)) = absurd (clash r (not-false-true r q) p)
+          go (inr (p, _)) = absurd (clash r (not-false r q) p)
 
       pub complete-ask : CompleteAsk t lab (base t) w₁
       complete-ask =

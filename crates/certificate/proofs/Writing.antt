@@ -10,7 +10,7 @@ use mathlib.Core.List.{List}
 use lib.ListN.{length, getD}
 use lib.Seq.{ext-getD}
 use lib.Dec.{T, eqb}
-use borrow.Author.Tests.{eqb-true, ltb-false, not-false, eq-eqb, ne-eqb}
+use borrow.Author.Tests.{ltb-false, not-false, eq-eqb, ne-eqb, not-true}
 use Rattle.graph.specs.Graph.{Valid}
 use Rattle.graph.specs.Numbers.{some-below}
 use Rattle.graph.specs.Search.{labelOf, labels}
@@ -22,9 +22,10 @@ use Rattle.graph.proofs.Tests.{some-below-iff, length-table}
 use Rattle.graph.proofs.Search.{label-is, label-eq}
 use Rattle.graph.proofs.Refusals.{or-stop, or-pass, or-none, given-none, or-left-none, Passed, table-passed, passed-valid}
 use Rattle.regions.specs.Regions.{Copied}
+use Rattle.checker.proofs.Laws.{sized}
 use Rattle.certificate.specs.Work.{base, Beyond, WorkAsk, Made, Worked, HandAsk, Handed, ClearAsk, Cleared}
-use Rattle.classes.proofs.Classing.{clash, not-true-false, not-false-true}
-use Rattle.certificate.specs.Promise.{lent, Call, call, table, columns, wrongSize, wrongLabel, earlyRefusal, writerRefusal, Promise}
+use Rattle.classes.proofs.Classing.{clash}
+use Rattle.certificate.specs.Promise.{lent, Call, call, table, columns, wrongLabel, earlyRefusal, writerRefusal, Promise}
 
 -- what a call has that is not refused by 1 to 6
 pub record Ready (c : Call) : Type 0 where
@@ -32,23 +33,6 @@ pub record Ready (c : Call) : Type 0 where
   pub sized : Sized (c .n) (columns (c .label) (c .lends))
   pub numbers-room : numbersNeeded (c .n) (length (c .sources)) ≤ length (c .lends .numbers)
   pub words-room : wordsNeeded (c .n) ≤ length (c .lends .words)
-
-sized-columns : (n : ℕ) (c : Columns) → wrongSize n c ≡ false → Sized n c
-unfolding wrongSize
-sized-columns n c e =
-    let (r5, e6) = or-left-none _ _ e in
-    let (r4, e5) = or-left-none _ _ r5 in
-    let (r3, e4) = or-left-none _ _ r4 in
-    let (r2, e3) = or-left-none _ _ r3 in
-    let (e1, e2) = or-left-none _ _ r2 in
-    record {
-      label = eqb-true _ n (not-false _ e1);
-      rank = eqb-true _ n (not-false _ e2);
-      inEdge = eqb-true _ n (not-false _ e3);
-      inDist = eqb-true _ n (not-false _ e4);
-      outEdge = eqb-true _ n (not-false _ e5);
-      outDist = eqb-true _ n (not-false _ e6);
-    }
 
 given-low : (k : ℕ) (b : Bool) (x : ℕ) → k ≤ x → given k b ≤ x
 unfolding given
@@ -73,7 +57,7 @@ module _ (c : Call) where
       let (s, t) = or-left-none _ _ (given-none 6 _ (suc-ne-zero 5) e6) in
       record {
         passed = table-passed (c .n) (c .sources) (c .targets) e1;
-        sized = sized-columns (c .n) (columns (c .label) (c .lends)) (given-none 5 _ (suc-ne-zero 4) e5);
+        sized = sized (c .n) (columns (c .label) (c .lends)) (given-none 5 _ (suc-ne-zero 4) e5);
         numbers-room = ltb-false _ _ s;
         words-room = ltb-false _ _ t;
       }
@@ -180,7 +164,7 @@ module _ (c : Call) where
         }
       where
         go : ((r ≡ true) × Made (table c) (c .label) (base (table c)) w) ⊎ ((r ≡ false) × (Right (table c) (c .label) → ⊥)) → Right (table c) (c .label) → ⊥
-        go (inl (q, _)) right = clash r q (not-true-false r f)
+        go (inl (q, _)) right = clash r q (not-true r f)
         go (inr (_, o)) right = o right
 
     columns-same : {label rank rank′ inEdge inEdge′ inDist inDist′ outEdge outEdge′ outDist outDist′ : List ℕ}
@@ -218,7 +202,7 @@ module _ (c : Call) where
       where
         go : ((r ≡ true) × Made (table c) (c .label) (base (table c)) w) ⊎ ((r ≡ false) × (Right (table c) (c .label) → ⊥)) → Made (table c) (c .label) (base (table c)) w
         go (inl (_, m)) = m
-        go (inr (q, _)) = absurd (clash r (not-false-true r f) q)
+        go (inr (q, _)) = absurd (clash r (not-false r f) q)
 
         made : Made (table c) (c .label) (base (table c)) w
         made = go (x .either)

@@ -12,6 +12,7 @@ use Rattle.graph.specs.Limits.{wrongLength, memoryShort, wrongLabels, numbersNe
 use Rattle.graph.specs.Refusal.{given, _or_, tableRefusal}
 use Rattle.graph.specs.Checker.{Columns, at}
 use Rattle.graph.specs.Certificate.{certificate}
+use Rattle.checker.specs.Promise.{wrongSize}
 use Rattle.certificate.specs.Work.{Cleared}
 
 -- what is lent to be written
@@ -46,13 +47,6 @@ table c = graph (c .n) (c .sources) (c .targets)
 abbrev pub columns : List ℕ → Lent → Columns
 columns label l =
     record { label = label; rank = l .rank; inEdge = l .inEdge; inDist = l .inDist; outEdge = l .outEdge; outDist = l .outDist }
-
--- some column is not exactly n long
-unfoldable pub wrongSize : ℕ → Columns → Bool
-wrongSize n c =
-    not (eqb (length (c .label)) n) || not (eqb (length (c .rank)) n)
-    || not (eqb (length (c .inEdge)) n) || not (eqb (length (c .inDist)) n)
-    || not (eqb (length (c .outEdge)) n) || not (eqb (length (c .outDist)) n)
 
 -- some label is not the right one
 unfoldable pub wrongLabel : Graph → List ℕ → Bool

@@ -21,7 +21,7 @@ unfolding check1
 label-at-most c v e = let t : T (check1 c v) = rw e tt in leb→le _ _ (and-l (leb (at (c .label) v) v) _ t)
 
 -- columns of which none has the wrong size
-sized : (n : ℕ) (c : Columns) → wrongSize n c ≡ false → Sized n c
+pub sized : (n : ℕ) (c : Columns) → wrongSize n c ≡ false → Sized n c
 unfolding wrongSize
 sized n c e =
     let (r5, e6) = or-left-none _ _ e in

@@ -9,7 +9,7 @@ use mathlib.Core.List.{List}
 use lib.ListN.{length, getD, set}
 use lib.Seq.{getD-set-same, getD-set-other}
 use lib.Dec.{eqb}
-use borrow.Author.Tests.{eq-eqb, ne-eqb}
+use borrow.Author.Tests.{eq-eqb, ne-eqb, not-true, not-false}
 use Rattle.graph.specs.Graph.{Graph, Chain}
 use Rattle.graph.specs.Parts.{Fwd, only}
 use Rattle.graph.specs.Checker.{at}
@@ -30,21 +30,13 @@ own-test lab v l = by-cases (ℕ-discrete (at lab (at lab v)) (at lab v)) (λ q.
 pub clash : (r : Bool) → r ≡ true → r ≡ false → ⊥
 clash r p q = let z : _≡_ {A = ℕ} 0 1 = cc in omega arith
 
-pub not-true-false : (r : Bool) → not r ≡ true → r ≡ false
-not-true-false true q = let z : _≡_ {A = ℕ} 0 1 = cc in absurd (omega arith)
-not-true-false false q = refl
-
-pub not-false-true : (r : Bool) → not r ≡ false → r ≡ true
-not-false-true true q = refl
-not-false-true false q = let z : _≡_ {A = ℕ} 0 1 = cc in absurd (omega arith)
-
 pub own-no : (n : ℕ) (lab : List ℕ) (v : ℕ) (r : Bool) → v < n → Own lab v r → not r ≡ true → OwnLabels n lab → ⊥
-own-no n lab v r l (inl (p, _, _)) q o = clash r p (not-true-false r q)
+own-no n lab v r l (inl (p, _, _)) q o = clash r p (not-true r q)
 own-no n lab v r l (inr (_, f)) q o = f (o v l .0) (o v l .1)
 
 pub own-yes : (lab : List ℕ) (v : ℕ) (r : Bool) → Own lab v r → not r ≡ false → (at lab v ≤ v) × (at lab (at lab v) ≡ at lab v)
 own-yes lab v r (inl (_, a, b)) q = (a, b)
-own-yes lab v r (inr (p, _)) q = absurd (clash r (not-false-true r q) p)
+own-yes lab v r (inr (p, _)) q = absurd (clash r (not-false r q) p)
 
 module _ (n : ℕ) (lab : List ℕ) (b : ℕ) (w₀ : List ℕ) where
   pub colour-none : Coloured n lab b 0 w₀ w₀

@@ -5,7 +5,8 @@ use borrow.Author.Needs.{needs}
 use borrow.Author.Tests.{eq-eqb, ne-eqb, lt-ltb, le-ltb}
 use Rattle.graph.proofs.Refusals.{or-stop, table-passed}
 use Rattle.graph.specs.Refusal.{given, _or_}
-use Rattle.certificate.specs.Promise.{earlyRefusal, wrongSize}
+use Rattle.checker.specs.Promise.{wrongSize}
+use Rattle.certificate.specs.Promise.{earlyRefusal}
 use Rattle.certificate.proofs.refusal.Statement.{statement}
 use Rattle.certificate.proofs.refusal.Tie as tie
 
@@ -14,47 +15,103 @@ check-requires c κs = search needs
 
 returns : tie.Need-returns
 unfolding earlyRefusal
-returns c = rw (← (c .before .check .ensures), or-stop _ _ (c .if1 .taken))
+returns c =
+    let at-check = c .before in
+    rw (← (at-check .check .ensures), or-stop _ _ (c .if1 .taken))
 
 returns-2 : tie.Need-returns-2
 unfolding earlyRefusal wrongSize given _or_
-returns-2 c = rw (← (c .before .before .check .ensures), c .before .if1 .left, ne-eqb _ _ (c .if2 .taken))
+returns-2 c =
+    let at-if1 = c .before in
+    let at-check = at-if1 .before in
+    rw (← (at-check .check .ensures), at-if1 .if1 .left, ne-eqb _ _ (c .if2 .taken))
 
 returns-3 : tie.Need-returns-3
 unfolding earlyRefusal wrongSize given _or_
-returns-3 c = rw (← (c .before .before .before .check .ensures), c .before .before .if1 .left, eq-eqb _ _ (c .before .if2 .left), ne-eqb _ _ (c .if3 .taken))
+returns-3 c =
+    let at-if2 = c .before in
+    let at-if1 = at-if2 .before in
+    let at-check = at-if1 .before in
+    rw (← (at-check .check .ensures), at-if1 .if1 .left, eq-eqb _ _ (at-if2 .if2 .left), ne-eqb _ _ (c .if3 .taken))
 
 returns-4 : tie.Need-returns-4
 unfolding earlyRefusal wrongSize given _or_
-returns-4 c = rw (← (c .before .before .before .before .check .ensures), c .before .before .before .if1 .left, eq-eqb _ _ (c .before .before .if2 .left), eq-eqb _ _ (c .before .if3 .left), ne-eqb _ _ (c .if4 .taken))
+returns-4 c =
+    let at-if3 = c .before in
+    let at-if2 = at-if3 .before in
+    let at-if1 = at-if2 .before in
+    let at-check = at-if1 .before in
+    rw (← (at-check .check .ensures), at-if1 .if1 .left, eq-eqb _ _ (at-if2 .if2 .left), eq-eqb _ _ (at-if3 .if3 .left), ne-eqb _ _ (c .if4 .taken))
 
 returns-5 : tie.Need-returns-5
 unfolding earlyRefusal wrongSize given _or_
-returns-5 c = rw (← (c .before .before .before .before .before .check .ensures), c .before .before .before .before .if1 .left, eq-eqb _ _ (c .before .before .before .if2 .left), eq-eqb _ _ (c .before .before .if3 .left), eq-eqb _ _ (c .before .if4 .left), ne-eqb _ _ (c .if5 .taken))
+returns-5 c =
+    let at-if4 = c .before in
+    let at-if3 = at-if4 .before in
+    let at-if2 = at-if3 .before in
+    let at-if1 = at-if2 .before in
+    let at-check = at-if1 .before in
+    rw (← (at-check .check .ensures), at-if1 .if1 .left, eq-eqb _ _ (at-if2 .if2 .left), eq-eqb _ _ (at-if3 .if3 .left), eq-eqb _ _ (at-if4 .if4 .left), ne-eqb _ _ (c .if5 .taken))
 
 returns-6 : tie.Need-returns-6
 unfolding earlyRefusal wrongSize given _or_
-returns-6 c = rw (← (c .before .before .before .before .before .before .check .ensures), c .before .before .before .before .before .if1 .left, eq-eqb _ _ (c .before .before .before .before .if2 .left), eq-eqb _ _ (c .before .before .before .if3 .left), eq-eqb _ _ (c .before .before .if4 .left), eq-eqb _ _ (c .before .if5 .left), ne-eqb _ _ (c .if6 .taken))
+returns-6 c =
+    let at-if5 = c .before in
+    let at-if4 = at-if5 .before in
+    let at-if3 = at-if4 .before in
+    let at-if2 = at-if3 .before in
+    let at-if1 = at-if2 .before in
+    let at-check = at-if1 .before in
+    rw (← (at-check .check .ensures), at-if1 .if1 .left, eq-eqb _ _ (at-if2 .if2 .left), eq-eqb _ _ (at-if3 .if3 .left), eq-eqb _ _ (at-if4 .if4 .left), eq-eqb _ _ (at-if5 .if5 .left), ne-eqb _ _ (c .if6 .taken))
 
 returns-7 : tie.Need-returns-7
 unfolding earlyRefusal wrongSize given _or_
-returns-7 c = rw (← (c .before .before .before .before .before .before .before .check .ensures), c .before .before .before .before .before .before .if1 .left, eq-eqb _ _ (c .before .before .before .before .before .if2 .left), eq-eqb _ _ (c .before .before .before .before .if3 .left), eq-eqb _ _ (c .before .before .before .if4 .left), eq-eqb _ _ (c .before .before .if5 .left), eq-eqb _ _ (c .before .if6 .left), ne-eqb _ _ (c .if7 .taken))
+returns-7 c =
+    let at-if6 = c .before in
+    let at-if5 = at-if6 .before in
+    let at-if4 = at-if5 .before in
+    let at-if3 = at-if4 .before in
+    let at-if2 = at-if3 .before in
+    let at-if1 = at-if2 .before in
+    let at-check = at-if1 .before in
+    rw (← (at-check .check .ensures), at-if1 .if1 .left, eq-eqb _ _ (at-if2 .if2 .left), eq-eqb _ _ (at-if3 .if3 .left), eq-eqb _ _ (at-if4 .if4 .left), eq-eqb _ _ (at-if5 .if5 .left), eq-eqb _ _ (at-if6 .if6 .left), ne-eqb _ _ (c .if7 .taken))
 
 mul-if8 : tie.Need-mul-if8
-mul-if8 c = omega (arith, table-passed (c .before .before .before .before .before .before .before .before .before .before .before .before .before .before .before .before .before .before .args .n) (c .before .before .before .before .before .before .before .before .before .before .before .before .before .before .before .before .before .before .args .sources .now) (c .before .before .before .before .before .before .before .before .before .before .before .before .before .before .before .before .before .before .args .targets .now) (sym (c .before .before .before .before .before .before .before .check .ensures) ∙ c .before .before .before .before .before .before .if1 .left) .small, table-passed (c .before .before .before .before .before .before .before .before .before .before .before .before .before .before .before .before .before .before .args .n) (c .before .before .before .before .before .before .before .before .before .before .before .before .before .before .before .before .before .before .args .sources .now) (c .before .before .before .before .before .before .before .before .before .before .before .before .before .before .before .before .before .before .args .targets .now) (sym (c .before .before .before .before .before .before .before .check .ensures) ∙ c .before .before .before .before .before .before .if1 .left) .few)
+mul-if8 c =
+    let at-if1 = c .before .before .before .before .before .before in
+    let at-check = at-if1 .before in
+    let start = at-check .before .before .before .before .before .before .before .before .before .before .before in
+    omega (arith, table-passed (start .args .n) (start .args .sources .now) (start .args .targets .now) (sym (at-check .check .ensures) ∙ at-if1 .if1 .left) .small, table-passed (start .args .n) (start .args .sources .now) (start .args .targets .now) (sym (at-check .check .ensures) ∙ at-if1 .if1 .left) .few)
 
 mul-if8-2 : tie.Need-mul-if8-2
 mul-if8-2 c = search needs
 
 add-if8 : tie.Need-add-if8
-add-if8 c = omega (arith, table-passed (c .before .before .before .before .before .before .before .before .before .before .before .before .before .before .before .before .before .before .args .n) (c .before .before .before .before .before .before .before .before .before .before .before .before .before .before .before .before .before .before .args .sources .now) (c .before .before .before .before .before .before .before .before .before .before .before .before .before .before .before .before .before .before .args .targets .now) (sym (c .before .before .before .before .before .before .before .check .ensures) ∙ c .before .before .before .before .before .before .if1 .left) .small, table-passed (c .before .before .before .before .before .before .before .before .before .before .before .before .before .before .before .before .before .before .args .n) (c .before .before .before .before .before .before .before .before .before .before .before .before .before .before .before .before .before .before .args .sources .now) (c .before .before .before .before .before .before .before .before .before .before .before .before .before .before .before .before .before .before .args .targets .now) (sym (c .before .before .before .before .before .before .before .check .ensures) ∙ c .before .before .before .before .before .before .if1 .left) .few)
+add-if8 c =
+    let at-if1 = c .before .before .before .before .before .before in
+    let at-check = at-if1 .before in
+    let start = at-check .before .before .before .before .before .before .before .before .before .before .before in
+    omega (arith, table-passed (start .args .n) (start .args .sources .now) (start .args .targets .now) (sym (at-check .check .ensures) ∙ at-if1 .if1 .left) .small, table-passed (start .args .n) (start .args .sources .now) (start .args .targets .now) (sym (at-check .check .ensures) ∙ at-if1 .if1 .left) .few)
 
 add-if8-2 : tie.Need-add-if8-2
-add-if8-2 c = omega (arith, table-passed (c .before .before .before .before .before .before .before .before .before .before .before .before .before .before .before .before .before .before .args .n) (c .before .before .before .before .before .before .before .before .before .before .before .before .before .before .before .before .before .before .args .sources .now) (c .before .before .before .before .before .before .before .before .before .before .before .before .before .before .before .before .before .before .args .targets .now) (sym (c .before .before .before .before .before .before .before .check .ensures) ∙ c .before .before .before .before .before .before .if1 .left) .small, table-passed (c .before .before .before .before .before .before .before .before .before .before .before .before .before .before .before .before .before .before .args .n) (c .before .before .before .before .before .before .before .before .before .before .before .before .before .before .before .before .before .before .args .sources .now) (c .before .before .before .before .before .before .before .before .before .before .before .before .before .before .before .before .before .before .args .targets .now) (sym (c .before .before .before .before .before .before .before .check .ensures) ∙ c .before .before .before .before .before .before .if1 .left) .few)
+add-if8-2 c =
+    let at-if1 = c .before .before .before .before .before .before in
+    let at-check = at-if1 .before in
+    let start = at-check .before .before .before .before .before .before .before .before .before .before .before in
+    omega (arith, table-passed (start .args .n) (start .args .sources .now) (start .args .targets .now) (sym (at-check .check .ensures) ∙ at-if1 .if1 .left) .small, table-passed (start .args .n) (start .args .sources .now) (start .args .targets .now) (sym (at-check .check .ensures) ∙ at-if1 .if1 .left) .few)
 
 returns-8 : tie.Need-returns-8
 unfolding earlyRefusal wrongSize given _or_
-returns-8 c = rw (← (c .before .before .before .before .before .before .before .before .check .ensures), c .before .before .before .before .before .before .before .if1 .left, eq-eqb _ _ (c .before .before .before .before .before .before .if2 .left), eq-eqb _ _ (c .before .before .before .before .before .if3 .left), eq-eqb _ _ (c .before .before .before .before .if4 .left), eq-eqb _ _ (c .before .before .before .if5 .left), eq-eqb _ _ (c .before .before .if6 .left), eq-eqb _ _ (c .before .if7 .left), lt-ltb _ _ (c .if8 .taken))
+returns-8 c =
+    let at-if7 = c .before in
+    let at-if6 = at-if7 .before in
+    let at-if5 = at-if6 .before in
+    let at-if4 = at-if5 .before in
+    let at-if3 = at-if4 .before in
+    let at-if2 = at-if3 .before in
+    let at-if1 = at-if2 .before in
+    let at-check = at-if1 .before in
+    rw (← (at-check .check .ensures), at-if1 .if1 .left, eq-eqb _ _ (at-if2 .if2 .left), eq-eqb _ _ (at-if3 .if3 .left), eq-eqb _ _ (at-if4 .if4 .left), eq-eqb _ _ (at-if5 .if5 .left), eq-eqb _ _ (at-if6 .if6 .left), eq-eqb _ _ (at-if7 .if7 .left), lt-ltb _ _ (c .if8 .taken))
 
 add-if9 : tie.Need-add-if9
 add-if9 c = search needs
@@ -64,11 +121,31 @@ mul-if9 c = search needs
 
 returns-9 : tie.Need-returns-9
 unfolding earlyRefusal wrongSize given _or_
-returns-9 c = rw (← (c .before .before .before .before .before .before .before .before .before .check .ensures), c .before .before .before .before .before .before .before .before .if1 .left, eq-eqb _ _ (c .before .before .before .before .before .before .before .if2 .left), eq-eqb _ _ (c .before .before .before .before .before .before .if3 .left), eq-eqb _ _ (c .before .before .before .before .before .if4 .left), eq-eqb _ _ (c .before .before .before .before .if5 .left), eq-eqb _ _ (c .before .before .before .if6 .left), eq-eqb _ _ (c .before .before .if7 .left), le-ltb _ _ (c .before .if8 .left), lt-ltb _ _ (c .if9 .taken))
+returns-9 c =
+    let at-if8 = c .before in
+    let at-if7 = at-if8 .before in
+    let at-if6 = at-if7 .before in
+    let at-if5 = at-if6 .before in
+    let at-if4 = at-if5 .before in
+    let at-if3 = at-if4 .before in
+    let at-if2 = at-if3 .before in
+    let at-if1 = at-if2 .before in
+    let at-check = at-if1 .before in
+    rw (← (at-check .check .ensures), at-if1 .if1 .left, eq-eqb _ _ (at-if2 .if2 .left), eq-eqb _ _ (at-if3 .if3 .left), eq-eqb _ _ (at-if4 .if4 .left), eq-eqb _ _ (at-if5 .if5 .left), eq-eqb _ _ (at-if6 .if6 .left), eq-eqb _ _ (at-if7 .if7 .left), le-ltb _ _ (at-if8 .if8 .left), lt-ltb _ _ (c .if9 .taken))
 
 returns-10 : tie.Need-returns-10
 unfolding earlyRefusal wrongSize given _or_
-returns-10 c = rw (← (c .before .before .before .before .before .before .before .before .before .check .ensures), c .before .before .before .before .before .before .before .before .if1 .left, eq-eqb _ _ (c .before .before .before .before .before .before .before .if2 .left), eq-eqb _ _ (c .before .before .before .before .before .before .if3 .left), eq-eqb _ _ (c .before .before .before .before .before .if4 .left), eq-eqb _ _ (c .before .before .before .before .if5 .left), eq-eqb _ _ (c .before .before .before .if6 .left), eq-eqb _ _ (c .before .before .if7 .left), le-ltb _ _ (c .before .if8 .left), le-ltb _ _ (c .if9 .left))
+returns-10 c =
+    let at-if8 = c .before in
+    let at-if7 = at-if8 .before in
+    let at-if6 = at-if7 .before in
+    let at-if5 = at-if6 .before in
+    let at-if4 = at-if5 .before in
+    let at-if3 = at-if4 .before in
+    let at-if2 = at-if3 .before in
+    let at-if1 = at-if2 .before in
+    let at-check = at-if1 .before in
+    rw (← (at-check .check .ensures), at-if1 .if1 .left, eq-eqb _ _ (at-if2 .if2 .left), eq-eqb _ _ (at-if3 .if3 .left), eq-eqb _ _ (at-if4 .if4 .left), eq-eqb _ _ (at-if5 .if5 .left), eq-eqb _ _ (at-if6 .if6 .left), eq-eqb _ _ (at-if7 .if7 .left), le-ltb _ _ (at-if8 .if8 .left), le-ltb _ _ (c .if9 .left))
 
 pub refusal-spec : {M : Type 1} → statement M
 refusal-spec =

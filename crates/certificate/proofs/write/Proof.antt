@@ -35,13 +35,25 @@ same-length-7 : tie.Need-same-length-7
 same-length-7 c = search needs
 
 returns : tie.Need-returns
-returns c = refused-promise (asked ((c .before .before .before .before .before .before .before .before .before .before .before .before .before .before .before .before .before .before .before))) (c .before .refusal .result) (c .before .refusal .ensures) (c .if1 .taken)
+returns c =
+    let at-refusal = c .before in
+    let start = at-refusal .before .before .before .before .before .before .before .before .before .before .before .before .before .before .before .before .before .before in
+    refused-promise (asked (start)) (at-refusal .refusal .result) (at-refusal .refusal .ensures) (c .if1 .taken)
 
 work-requires : tie.Need-work-requires
-work-requires c κs = work-ask (asked ((c .before .before .before .before .before .before .before .before .before .before .before .before .before .before .before .before .before .before .before .before))) (sym (c .before .before .refusal .ensures) ∙ c .before .if1 .left)
+work-requires c κs =
+    let at-if1 = c .before in
+    let at-refusal = at-if1 .before in
+    let start = at-refusal .before .before .before .before .before .before .before .before .before .before .before .before .before .before .before .before .before .before in
+    work-ask (asked (start)) (sym (at-refusal .refusal .ensures) ∙ at-if1 .if1 .left)
 
 clear-requires : tie.Need-clear-requires
-clear-requires c κs = clear-ask (asked ((c .before .before .before .before .before .before .before .before .before .before .before .before .before .before .before .before .before .before .before .before .before .before .before .before .before .before))) (sym (c .before .before .before .before .before .before .before .before .refusal .ensures) ∙ c .before .before .before .before .before .before .before .if1 .left) _ (c .before .before .before .before .before .work .ensures .beyond .long)
+clear-requires c κs =
+    let at-work = c .before .before .before .before .before in
+    let at-if1 = at-work .before .before in
+    let at-refusal = at-if1 .before in
+    let start = at-refusal .before .before .before .before .before .before .before .before .before .before .before .before .before .before .before .before .before .before in
+    clear-ask (asked (start)) (sym (at-refusal .refusal .ensures) ∙ at-if1 .if1 .left) _ (at-work .work .ensures .beyond .long)
 
 same-length-8 : tie.Need-same-length-8
 same-length-8 c = search needs
@@ -65,22 +77,51 @@ same-length-14 : tie.Need-same-length-14
 same-length-14 c = search needs
 
 returns-2 : tie.Need-returns-2
-returns-2 c = wrong-promise (asked ((c .before .before .before .before .before .before .before .before .before .before .before .before .before .before .before .before .before .before .before .before .before .before .before .before .before .before .before .before .before .before .before))) (sym (c .before .before .before .before .before .before .before .before .before .before .before .before .before .refusal .ensures) ∙ c .before .before .before .before .before .before .before .before .before .before .before .before .if1 .left) _ _ _ _ (c .before .before .before .before .before .before .before .before .before .before .work .ensures) (c .before .before .before .before .before .before .before .if2 .taken) (c .before .before .before .before .clear .ensures)
+returns-2 c =
+    let at-clear = c .before .before .before .before in
+    let at-if2 = at-clear .before .before .before in
+    let at-work = at-if2 .before .before .before in
+    let at-if1 = at-work .before .before in
+    let at-refusal = at-if1 .before in
+    let start = at-refusal .before .before .before .before .before .before .before .before .before .before .before .before .before .before .before .before .before .before in
+    wrong-promise (asked (start)) (sym (at-refusal .refusal .ensures) ∙ at-if1 .if1 .left) _ _ _ _ (at-work .work .ensures) (at-if2 .if2 .taken) (at-clear .clear .ensures)
 
 add-hand : tie.Need-add-hand
-add-hand c = let p = early-ready (asked ((c .before .before .before .before .before .before .before .before .before .before .before .before .before .before .before .before .before .before .before .before .before .before .before .before .before))) (sym (c .before .before .before .before .before .before .before .refusal .ensures) ∙ c .before .before .before .before .before .before .if1 .left) .passed in omega (arith, p .small, p .few)
+add-hand c =
+    let at-if1 = c .before .before .before .before .before .before in
+    let at-refusal = at-if1 .before in
+    let start = at-refusal .before .before .before .before .before .before .before .before .before .before .before .before .before .before .before .before .before .before in
+    let p = early-ready (asked (start)) (sym (at-refusal .refusal .ensures) ∙ at-if1 .if1 .left) .passed in omega (arith, p .small, p .few)
 
 add-hand-2 : tie.Need-add-hand-2
-add-hand-2 c = let p = early-ready (asked ((c .before .before .before .before .before .before .before .before .before .before .before .before .before .before .before .before .before .before .before .before .before .before .before .before .before))) (sym (c .before .before .before .before .before .before .before .refusal .ensures) ∙ c .before .before .before .before .before .before .if1 .left) .passed in omega (arith, p .small, p .few)
+add-hand-2 c =
+    let at-if1 = c .before .before .before .before .before .before in
+    let at-refusal = at-if1 .before in
+    let start = at-refusal .before .before .before .before .before .before .before .before .before .before .before .before .before .before .before .before .before .before in
+    let p = early-ready (asked (start)) (sym (at-refusal .refusal .ensures) ∙ at-if1 .if1 .left) .passed in omega (arith, p .small, p .few)
 
 mul-hand : tie.Need-mul-hand
-mul-hand c = let p = early-ready (asked ((c .before .before .before .before .before .before .before .before .before .before .before .before .before .before .before .before .before .before .before .before .before .before .before .before .before))) (sym (c .before .before .before .before .before .before .before .refusal .ensures) ∙ c .before .before .before .before .before .before .if1 .left) .passed in omega (arith, p .small, p .few)
+mul-hand c =
+    let at-if1 = c .before .before .before .before .before .before in
+    let at-refusal = at-if1 .before in
+    let start = at-refusal .before .before .before .before .before .before .before .before .before .before .before .before .before .before .before .before .before .before in
+    let p = early-ready (asked (start)) (sym (at-refusal .refusal .ensures) ∙ at-if1 .if1 .left) .passed in omega (arith, p .small, p .few)
 
 hand-requires : tie.Need-hand-requires
-hand-requires c κs = hand-ask (asked ((c .before .before .before .before .before .before .before .before .before .before .before .before .before .before .before .before .before .before .before .before .before .before .before .before .before .before .before .before .before .before))) (sym (c .before .before .before .before .before .before .before .before .before .before .before .before .refusal .ensures) ∙ c .before .before .before .before .before .before .before .before .before .before .before .if1 .left) _ (c .before .before .before .before .before .before .before .before .before .work .ensures .beyond .long)
+hand-requires c κs =
+    let at-work = c .before .before .before .before .before .before .before .before .before in
+    let at-if1 = at-work .before .before in
+    let at-refusal = at-if1 .before in
+    let start = at-refusal .before .before .before .before .before .before .before .before .before .before .before .before .before .before .before .before .before .before in
+    hand-ask (asked (start)) (sym (at-refusal .refusal .ensures) ∙ at-if1 .if1 .left) _ (at-work .work .ensures .beyond .long)
 
 clear-requires-2 : tie.Need-clear-requires-2
-clear-requires-2 c κs = clear-ask (asked ((c .before .before .before .before .before .before .before .before .before .before .before .before .before .before .before .before .before .before .before .before .before .before .before .before .before .before .before .before .before .before .before .before .before .before .before .before .before .before .before .before .before .before .before))) (sym (c .before .before .before .before .before .before .before .before .before .before .before .before .before .before .before .before .before .before .before .before .before .before .before .before .before .refusal .ensures) ∙ c .before .before .before .before .before .before .before .before .before .before .before .before .before .before .before .before .before .before .before .before .before .before .before .before .if1 .left) _ (c .before .before .before .before .before .before .before .before .before .before .before .before .before .before .before .before .before .before .before .before .before .before .work .ensures .beyond .long)
+clear-requires-2 c κs =
+    let at-work = c .before .before .before .before .before .before .before .before .before .before .before .before .before .before .before .before .before .before .before .before .before .before in
+    let at-if1 = at-work .before .before in
+    let at-refusal = at-if1 .before in
+    let start = at-refusal .before .before .before .before .before .before .before .before .before .before .before .before .before .before .before .before .before .before in
+    clear-ask (asked (start)) (sym (at-refusal .refusal .ensures) ∙ at-if1 .if1 .left) _ (at-work .work .ensures .beyond .long)
 
 same-length-15 : tie.Need-same-length-15
 same-length-15 c = search needs
@@ -104,7 +145,15 @@ same-length-21 : tie.Need-same-length-21
 same-length-21 c = search needs
 
 returns-3 : tie.Need-returns-3
-returns-3 c = done-promise (asked ((c .before .before .before .before .before .before .before .before .before .before .before .before .before .before .before .before .before .before .before .before .before .before .before .before .before .before .before .before .before .before .before .before .before .before .before .before .before .before .before .before .before .before .before .before .before .before .before .before))) (sym (c .before .before .before .before .before .before .before .before .before .before .before .before .before .before .before .before .before .before .before .before .before .before .before .before .before .before .before .before .before .before .refusal .ensures) ∙ c .before .before .before .before .before .before .before .before .before .before .before .before .before .before .before .before .before .before .before .before .before .before .before .before .before .before .before .before .before .if1 .left) _ _ _ _ _ _ _ _ _ (c .before .before .before .before .before .before .before .before .before .before .before .before .before .before .before .before .before .before .before .before .before .before .before .before .before .before .before .work .ensures) (c .before .before .before .before .before .before .before .before .before .before .before .before .before .before .before .before .before .before .before .before .before .before .before .before .if2 .left) (c .before .before .before .before .before .before .before .before .before .before .before .before .before .before .before .before .before .hand .ensures) (c .before .before .before .before .clear2 .ensures)
+returns-3 c =
+    let at-clear2 = c .before .before .before .before in
+    let at-hand = at-clear2 .before .before .before .before .before .before .before .before .before .before .before .before .before in
+    let at-if2 = at-hand .before .before .before .before .before .before .before in
+    let at-work = at-if2 .before .before .before in
+    let at-if1 = at-work .before .before in
+    let at-refusal = at-if1 .before in
+    let start = at-refusal .before .before .before .before .before .before .before .before .before .before .before .before .before .before .before .before .before .before in
+    done-promise (asked (start)) (sym (at-refusal .refusal .ensures) ∙ at-if1 .if1 .left) _ _ _ _ _ _ _ _ _ (at-work .work .ensures) (at-if2 .if2 .left) (at-hand .hand .ensures) (at-clear2 .clear2 .ensures)
 
 pub write-spec : {M : Type 1} → statement M
 write-spec =

@@ -21,22 +21,37 @@ loop-holds : tie.Need-loop-holds Inv-loop μ-loop
 loop-holds c = (omega arith, λ j h. absurd (omega arith))
 
 rises-requires : tie.Need-rises-requires Inv-loop μ-loop
-rises-requires c κs = let s = (c .before .before .before .before .before .before) in record { valid = s .pre .valid; label-size = s .pre .label-size; rank-size = s .pre .rank-size; low = c .loop-test .taken }
+rises-requires c κs =
+    let start = c .before .before .before .before .before .before in
+    record { valid = start .pre .valid; label-size = start .pre .label-size; rank-size = start .pre .rank-size; low = c .loop-test .taken }
 
 returns : tie.Need-returns Inv-loop μ-loop
-returns c = let s = (c .before .before .before .before .before .before .before .before) in least-found (length (s .args .sources .now)) (λ (e : ℕ). not (check5 (graph (s .args .n) (s .args .sources .now) (s .args .targets .now)) (labelAndRank (s .args .label .now) (s .args .rank .now)) e)) (c .before .before .before .loop .e) (c .before .before .loop-test .taken) (c .before .before .before .loop .inv .1) (rw (← (c .before .rises .ensures), c .if1 .taken))
+returns c =
+    let at-rises = c .before in
+    let at-loop-test = at-rises .before in
+    let at-loop = at-loop-test .before in
+    let start = at-loop .before .before .before .before .before in
+    least-found (length (start .args .sources .now)) (λ (e : ℕ). not (check5 (graph (start .args .n) (start .args .sources .now) (start .args .targets .now)) (labelAndRank (start .args .label .now) (start .args .rank .now)) e)) (at-loop .loop .e) (at-loop-test .loop-test .taken) (at-loop .loop .inv .1) (rw (← (at-rises .rises .ensures), c .if1 .taken))
 
 add-e : tie.Need-add-e Inv-loop μ-loop
-add-e c = omega (arith, c .before .before .loop-test .taken)
+add-e c =
+    let at-loop-test = c .before .before in
+    omega (arith, at-loop-test .loop-test .taken)
 
 loop-less : tie.Need-loop-less Inv-loop μ-loop
 loop-less c = omega arith
 
 loop-again : tie.Need-loop-again Inv-loop μ-loop
-loop-again c = (omega arith, below-more _ _ (c .before .before .before .loop .inv .1) (rw (← (c .before .rises .ensures), c .if1 .left)))
+loop-again c =
+    let at-rises = c .before in
+    let at-loop = at-rises .before .before in
+    (omega arith, below-more _ _ (at-loop .loop .inv .1) (rw (← (at-rises .rises .ensures), c .if1 .left)))
 
 returns-2 : tie.Need-returns-2 Inv-loop μ-loop
-returns-2 c = let s = (c .before .before .before .before .before .before) in least-none (length (s .args .sources .now)) (λ (e : ℕ). not (check5 (graph (s .args .n) (s .args .sources .now) (s .args .targets .now)) (labelAndRank (s .args .label .now) (s .args .rank .now)) e)) (λ j h. c .before .loop .inv .1 j (omega arith))
+returns-2 c =
+    let at-loop = c .before in
+    let start = at-loop .before .before .before .before .before in
+    least-none (length (start .args .sources .now)) (λ (e : ℕ). not (check5 (graph (start .args .n) (start .args .sources .now) (start .args .targets .now)) (labelAndRank (start .args .label .now) (start .args .rank .now)) e)) (λ j h. at-loop .loop .inv .1 j (omega arith))
 
 pub first-edge-spec : {M : Type 1} → statement M
 first-edge-spec =

@@ -22,22 +22,37 @@ loop-holds : tie.Need-loop-holds Inv-loop μ-loop
 loop-holds c = (omega arith, λ j h. absurd (omega arith))
 
 fault-requires : tie.Need-fault-requires Inv-loop μ-loop
-fault-requires c κs = record { ready = c .before .before .before .before .before .before .before .before .before .before .pre; low = c .loop-test .taken }
+fault-requires c κs =
+    let start = c .before .before .before .before .before .before .before .before .before .before in
+    record { ready = start .pre; low = c .loop-test .taken }
 
 returns : tie.Need-returns Inv-loop μ-loop
-returns c = let s = (c .before .before .before .before .before .before .before .before .before .before .before .before) in least-found (s .args .n) (λ (v : ℕ). not (eqb (fault (graph (s .args .n) (s .args .sources .now) (s .args .targets .now)) (columns (s .args .label .now) (s .args .rank .now) (s .args .in-edge .now) (s .args .in-distance .now) (s .args .out-edge .now) (s .args .out-distance .now)) v) 0)) (c .before .before .before .loop .v) (c .before .before .loop-test .taken) (c .before .before .before .loop .inv .1) (rw (← (c .before .fault .ensures), ne-eqb _ 0 (c .if1 .taken)))
+returns c =
+    let at-fault = c .before in
+    let at-loop-test = at-fault .before in
+    let at-loop = at-loop-test .before in
+    let start = at-loop .before .before .before .before .before .before .before .before .before in
+    least-found (start .args .n) (λ (v : ℕ). not (eqb (fault (graph (start .args .n) (start .args .sources .now) (start .args .targets .now)) (columns (start .args .label .now) (start .args .rank .now) (start .args .in-edge .now) (start .args .in-distance .now) (start .args .out-edge .now) (start .args .out-distance .now)) v) 0)) (at-loop .loop .v) (at-loop-test .loop-test .taken) (at-loop .loop .inv .1) (rw (← (at-fault .fault .ensures), ne-eqb _ 0 (c .if1 .taken)))
 
 add-v : tie.Need-add-v Inv-loop μ-loop
-add-v c = omega (arith, c .before .before .loop-test .taken)
+add-v c =
+    let at-loop-test = c .before .before in
+    omega (arith, at-loop-test .loop-test .taken)
 
 loop-less : tie.Need-loop-less Inv-loop μ-loop
 loop-less c = omega arith
 
 loop-again : tie.Need-loop-again Inv-loop μ-loop
-loop-again c = (omega arith, below-more _ _ (c .before .before .before .loop .inv .1) (rw (← (c .before .fault .ensures), c .if1 .left)))
+loop-again c =
+    let at-fault = c .before in
+    let at-loop = at-fault .before .before in
+    (omega arith, below-more _ _ (at-loop .loop .inv .1) (rw (← (at-fault .fault .ensures), c .if1 .left)))
 
 returns-2 : tie.Need-returns-2 Inv-loop μ-loop
-returns-2 c = let s = (c .before .before .before .before .before .before .before .before .before .before) in least-none (s .args .n) (λ (v : ℕ). not (eqb (fault (graph (s .args .n) (s .args .sources .now) (s .args .targets .now)) (columns (s .args .label .now) (s .args .rank .now) (s .args .in-edge .now) (s .args .in-distance .now) (s .args .out-edge .now) (s .args .out-distance .now)) v) 0)) (λ j h. c .before .loop .inv .1 j (omega arith))
+returns-2 c =
+    let at-loop = c .before in
+    let start = at-loop .before .before .before .before .before .before .before .before .before in
+    least-none (start .args .n) (λ (v : ℕ). not (eqb (fault (graph (start .args .n) (start .args .sources .now) (start .args .targets .now)) (columns (start .args .label .now) (start .args .rank .now) (start .args .in-edge .now) (start .args .in-distance .now) (start .args .out-edge .now) (start .args .out-distance .now)) v) 0)) (λ j h. at-loop .loop .inv .1 j (omega arith))
 
 pub first-vertex-spec : {M : Type 1} → statement M
 first-vertex-spec =

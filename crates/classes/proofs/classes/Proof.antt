@@ -18,10 +18,16 @@ abbrev μ-loop : tie.MeasureT-loop
 μ-loop from to n label w₀ ix b l₀ w l = n - l
 
 loop-holds : tie.Need-loop-holds Inv-loop μ-loop
-loop-holds c = let s = (c .before .before .before .before) in (omega arith, kept-none (s .args .n) (s .args .b) (s .args .w .now), s .pre .sorted)
+loop-holds c =
+    let start = c .before .before .before .before in
+    (omega arith, kept-none (start .args .n) (start .args .b) (start .args .w .now), start .pre .sorted)
 
 class-requires : tie.Need-class-requires Inv-loop μ-loop
-class-requires c κs = let s = (c .before .before .before .before .before .before .before) in let l = c .before .before .loop in (record { ask = ask-kept (s .pre .ask) (l .inv .1 .low) (l .inv .1 .long); low = l .inv .0; sorted = l .inv .2 }, c .before .loop-test .taken)
+class-requires c κs =
+    let at-loop-test = c .before in
+    let at-loop = at-loop-test .before in
+    let start = at-loop .before .before .before .before .before in
+    let l = at-loop .loop in (record { ask = ask-kept (start .pre .ask) (l .inv .1 .low) (l .inv .1 .long); low = l .inv .0; sorted = l .inv .2 }, at-loop-test .loop-test .taken)
 
 add-l : tie.Need-add-l Inv-loop μ-loop
 add-l c = omega arith
@@ -30,14 +36,23 @@ loop-less : tie.Need-loop-less Inv-loop μ-loop
 loop-less c = omega arith
 
 loop-again : tie.Need-loop-again Inv-loop μ-loop
-loop-again c = let s = (c .before .before .before .before .before .before .before .before .before .before) in let l = c .before .before .before .before .before .loop in let y = c .before .before .class .ensures in (omega arith, kept-more (l .inv .1) (y .kept), y .sorted)
+loop-again c =
+    let at-class = c .before .before in
+    let at-loop = at-class .before .before .before in
+    let start = at-loop .before .before .before .before .before in
+    let l = at-loop .loop in let y = at-class .class .ensures in (omega arith, kept-more (l .inv .1) (y .kept), y .sorted)
 
 same-length : tie.Need-same-length Inv-loop μ-loop
-same-length c = c .before .loop .inv .1 .long
+same-length c =
+    let at-loop = c .before in
+    at-loop .loop .inv .1 .long
 
 returns : tie.Need-returns Inv-loop μ-loop
-returns c = let s = (c .before .before .before .before .before .before) in let l = c .before .loop in
-    let e : l .l ≡ s .args .n = omega arith in
+returns c =
+    let at-loop = c .before in
+    let start = at-loop .before .before .before .before .before in
+    let l = at-loop .loop in
+    let e : l .l ≡ start .args .n = omega arith in
     record { kept = l .inv .1; sorted = rw e at (l .inv .2) }
 
 pub classes-spec : {M : Type 1} → statement M

@@ -17,28 +17,54 @@ loop-holds : tie.Need-loop-holds Inv-loop μ-loop
 loop-holds c = let s = c in (omega arith, colour-none (s .args .n) (s .args .label .now) (s .args .b) (s .args .w .now))
 
 add-w : tie.Need-add-w Inv-loop μ-loop
-add-w c = let s = (c .before .before) in omega (arith, s .pre .small)
+add-w c =
+    let start = c .before .before in
+    omega (arith, start .pre .small)
 
 cast-w : tie.Need-cast-w Inv-loop μ-loop
-cast-w c = let s = (c .before .before) in omega (arith, s .pre .small)
+cast-w c =
+    let start = c .before .before in
+    omega (arith, start .pre .small)
 
 mul-w : tie.Need-mul-w Inv-loop μ-loop
-mul-w c = let s = (c .before .before) in let l = c .before .loop in omega (arith, s .pre .size, s .pre .small)
+mul-w c =
+    let at-loop = c .before in
+    let start = at-loop .before in
+    let l = at-loop .loop in omega (arith, start .pre .size, start .pre .small)
 
 shared-slice-read-w : tie.Need-shared-slice-read-w Inv-loop μ-loop
-shared-slice-read-w c = let s = (c .before .before .before) in let l = c .before .before .loop in omega (arith, s .pre .fits, s .pre .small, s .pre .size, l .inv .1 .framed .long)
+shared-slice-read-w c =
+    let at-loop = c .before .before in
+    let start = at-loop .before in
+    let l = at-loop .loop in omega (arith, start .pre .fits, start .pre .small, start .pre .size, l .inv .1 .framed .long)
 
 add-w-2 : tie.Need-add-w-2 Inv-loop μ-loop
-add-w-2 c = let s = (c .before .before .before) in let l = c .before .before .loop in omega (arith, s .pre .fits, s .pre .small, s .pre .size, l .inv .1 .framed .long, s .pre .own (l .v) (c .before .loop-test .taken) .0)
+add-w-2 c =
+    let at-loop-test = c .before in
+    let at-loop = at-loop-test .before in
+    let start = at-loop .before in
+    let l = at-loop .loop in omega (arith, start .pre .fits, start .pre .small, start .pre .size, l .inv .1 .framed .long, start .pre .own (l .v) (at-loop-test .loop-test .taken) .0)
 
 add-w-3 : tie.Need-add-w-3 Inv-loop μ-loop
-add-w-3 c = let s = (c .before .before .before) in let l = c .before .before .loop in omega (arith, s .pre .fits, s .pre .small, s .pre .size, l .inv .1 .framed .long, s .pre .own (l .v) (c .before .loop-test .taken) .0)
+add-w-3 c =
+    let at-loop-test = c .before in
+    let at-loop = at-loop-test .before in
+    let start = at-loop .before in
+    let l = at-loop .loop in omega (arith, start .pre .fits, start .pre .small, start .pre .size, l .inv .1 .framed .long, start .pre .own (l .v) (at-loop-test .loop-test .taken) .0)
 
 mul-w-2 : tie.Need-mul-w-2 Inv-loop μ-loop
-mul-w-2 c = let s = (c .before .before .before) in let l = c .before .before .loop in omega (arith, s .pre .fits, s .pre .small, s .pre .size, l .inv .1 .framed .long, s .pre .own (l .v) (c .before .loop-test .taken) .0)
+mul-w-2 c =
+    let at-loop-test = c .before in
+    let at-loop = at-loop-test .before in
+    let start = at-loop .before in
+    let l = at-loop .loop in omega (arith, start .pre .fits, start .pre .small, start .pre .size, l .inv .1 .framed .long, start .pre .own (l .v) (at-loop-test .loop-test .taken) .0)
 
 slice-write-w : tie.Need-slice-write-w Inv-loop μ-loop
-slice-write-w c = let s = (c .before .before .before) in let l = c .before .before .loop in omega (arith, s .pre .fits, s .pre .small, s .pre .size, l .inv .1 .framed .long, s .pre .own (l .v) (c .before .loop-test .taken) .0)
+slice-write-w c =
+    let at-loop-test = c .before in
+    let at-loop = at-loop-test .before in
+    let start = at-loop .before in
+    let l = at-loop .loop in omega (arith, start .pre .fits, start .pre .small, start .pre .size, l .inv .1 .framed .long, start .pre .own (l .v) (at-loop-test .loop-test .taken) .0)
 
 add-v : tie.Need-add-v Inv-loop μ-loop
 add-v c = omega arith
@@ -47,14 +73,23 @@ loop-less : tie.Need-loop-less Inv-loop μ-loop
 loop-less c = omega arith
 
 loop-again : tie.Need-loop-again Inv-loop μ-loop
-loop-again c = let s = (c .before .before .before) in let l = c .before .before .loop in (omega arith, colour-step (s .args .n) (s .args .label .now) (s .args .b) (s .args .w .now) (l .v) (l .w) (l .inv .1) (c .before .loop-test .taken) (omega (arith, s .pre .fits, l .inv .1 .framed .long)))
+loop-again c =
+    let at-loop-test = c .before in
+    let at-loop = at-loop-test .before in
+    let start = at-loop .before in
+    let l = at-loop .loop in (omega arith, colour-step (start .args .n) (start .args .label .now) (start .args .b) (start .args .w .now) (l .v) (l .w) (l .inv .1) (at-loop-test .loop-test .taken) (omega (arith, start .pre .fits, l .inv .1 .framed .long)))
 
 same-length : tie.Need-same-length Inv-loop μ-loop
-same-length c = c .before .loop .inv .1 .framed .long
+same-length c =
+    let at-loop = c .before in
+    at-loop .loop .inv .1 .framed .long
 
 returns : tie.Need-returns Inv-loop μ-loop
-returns c = let s = (c .before .before) in let l = c .before .loop in
-    let e : l .v ≡ s .args .n = omega arith in
+returns c =
+    let at-loop = c .before in
+    let start = at-loop .before in
+    let l = at-loop .loop in
+    let e : l .v ≡ start .args .n = omega arith in
     rw e at (l .inv .1)
 
 pub colour-spec : {M : Type 1} → statement M

@@ -15,7 +15,9 @@ shared-slice-read-l : tie.Need-shared-slice-read-l
 shared-slice-read-l c = search needs
 
 cast-l : tie.Need-cast-l
-cast-l c = omega (arith, c .shared-slice-known .given (c .before .args .v))
+cast-l c =
+    let start = c .before in
+    omega (arith, c .shared-slice-known .given (start .args .v))
 
 returns : tie.Need-returns
 returns c = inr (refl, λ p q. omega (arith, c .if1 .taken))
@@ -27,10 +29,15 @@ shared-slice-read-x : tie.Need-shared-slice-read-x
 shared-slice-read-x c = search needs
 
 cast-x : tie.Need-cast-x
-cast-x c = omega (arith, c .shared-slice-known2 .given (getD (c .before .before .before .args .label .now) (c .before .before .before .args .v) 0))
+cast-x c =
+    let start = c .before .before .before in
+    omega (arith, c .shared-slice-known2 .given (getD (start .args .label .now) (start .args .v) 0))
 
 returns-2 : tie.Need-returns-2
-returns-2 c = own-test (c .before .before .before .args .label .now) (c .before .before .before .args .v) (c .before .if1 .left)
+returns-2 c =
+    let at-if1 = c .before in
+    let start = at-if1 .before .before in
+    own-test (start .args .label .now) (start .args .v) (at-if1 .if1 .left)
 
 pub own-spec : {M : Type 1} → statement M
 own-spec =

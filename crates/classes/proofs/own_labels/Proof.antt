@@ -18,10 +18,17 @@ loop-holds : tie.Need-loop-holds Inv-loop μ-loop
 loop-holds c = (omega arith, λ u l. absurd (omega arith))
 
 own-requires : tie.Need-own-requires Inv-loop μ-loop
-own-requires c κs = omega (arith, c .before .before .before .pre, c .loop-test .taken)
+own-requires c κs =
+    let start = c .before .before .before in
+    omega (arith, start .pre, c .loop-test .taken)
 
 returns : tie.Need-returns Inv-loop μ-loop
-returns c = inr (refl, own-no (c .before .before .before .before .before .args .n) (c .before .before .before .before .before .args .label .now) (c .before .before .before .loop .v) _ (c .before .before .loop-test .taken) (c .before .own .ensures) (c .if1 .taken))
+returns c =
+    let at-own = c .before in
+    let at-loop-test = at-own .before in
+    let at-loop = at-loop-test .before in
+    let start = at-loop .before .before in
+    inr (refl, own-no (start .args .n) (start .args .label .now) (at-loop .loop .v) _ (at-loop-test .loop-test .taken) (at-own .own .ensures) (c .if1 .taken))
 
 add-v : tie.Need-add-v Inv-loop μ-loop
 add-v c = omega arith
@@ -30,10 +37,16 @@ loop-less : tie.Need-loop-less Inv-loop μ-loop
 loop-less c = omega arith
 
 loop-again : tie.Need-loop-again Inv-loop μ-loop
-loop-again c = (omega arith, below-more _ _ (c .before .before .before .loop .inv .1) (own-yes (c .before .before .before .before .before .args .label .now) (c .before .before .before .loop .v) _ (c .before .own .ensures) (c .if1 .left)))
+loop-again c =
+    let at-own = c .before in
+    let at-loop = at-own .before .before in
+    let start = at-loop .before .before in
+    (omega arith, below-more _ _ (at-loop .loop .inv .1) (own-yes (start .args .label .now) (at-loop .loop .v) _ (at-own .own .ensures) (c .if1 .left)))
 
 returns-2 : tie.Need-returns-2 Inv-loop μ-loop
-returns-2 c = inl (refl, λ u l. c .before .loop .inv .1 u (omega (arith, c .loop-test .left)))
+returns-2 c =
+    let at-loop = c .before in
+    inl (refl, λ u l. at-loop .loop .inv .1 u (omega (arith, c .loop-test .left)))
 
 pub own-labels-spec : {M : Type 1} → statement M
 own-labels-spec =

@@ -14,10 +14,16 @@ abbrev μ-loop : tie.MeasureT-loop
 μ-loop w₀ n b k₀ v₀ w k v = n - v
 
 loop-holds : tie.Need-loop-holds Inv-loop μ-loop
-loop-holds c = let s = (c .before) in (omega arith, frees-none (s .args .n) (s .args .b) (s .args .w .now))
+loop-holds c =
+    let start = c .before in
+    (omega arith, frees-none (start .args .n) (start .args .b) (start .args .w .now))
 
 free-requires : tie.Need-free-requires Inv-loop μ-loop
-free-requires c κs = let s = (c .before .before .before .before) in let l = c .before .before .loop in record { ask = record { small = s .pre .small; fits = frees-fits (s .args .n) (s .args .b) (s .args .w .now) (l .v) (l .w) (l .k) (l .inv .1) (c .before .loop-test .taken) (s .pre .fits) }; vertex = c .before .loop-test .taken; room = frees-room (s .args .n) (s .args .b) (s .args .w .now) (l .v) (l .w) (l .k) (l .inv .1) (c .before .loop-test .taken) (s .pre .fits) }
+free-requires c κs =
+    let at-loop-test = c .before in
+    let at-loop = at-loop-test .before in
+    let start = at-loop .before .before in
+    let l = at-loop .loop in record { ask = record { small = start .pre .small; fits = frees-fits (start .args .n) (start .args .b) (start .args .w .now) (l .v) (l .w) (l .k) (l .inv .1) (at-loop-test .loop-test .taken) (start .pre .fits) }; vertex = at-loop-test .loop-test .taken; room = frees-room (start .args .n) (start .args .b) (start .args .w .now) (l .v) (l .w) (l .k) (l .inv .1) (at-loop-test .loop-test .taken) (start .pre .fits) }
 
 add-v : tie.Need-add-v Inv-loop μ-loop
 add-v c = omega arith
@@ -26,14 +32,24 @@ loop-less : tie.Need-loop-less Inv-loop μ-loop
 loop-less c = omega arith
 
 loop-again : tie.Need-loop-again Inv-loop μ-loop
-loop-again c = let s = (c .before .before .before .before .before .before .before) in let l = c .before .before .before .before .before .loop in (omega arith, frees-step (s .args .n) (s .args .b) (s .args .w .now) (l .v) (l .w) (l .k) (l .inv .1) (c .before .before .before .before .loop-test .taken) (s .pre .fits) _ _ (c .before .before .free .ensures))
+loop-again c =
+    let at-free = c .before .before in
+    let at-loop-test = at-free .before .before in
+    let at-loop = at-loop-test .before in
+    let start = at-loop .before .before in
+    let l = at-loop .loop in (omega arith, frees-step (start .args .n) (start .args .b) (start .args .w .now) (l .v) (l .w) (l .k) (l .inv .1) (at-loop-test .loop-test .taken) (start .pre .fits) _ _ (at-free .free .ensures))
 
 same-length : tie.Need-same-length Inv-loop μ-loop
-same-length c = c .before .loop .inv .1 .framed .long
+same-length c =
+    let at-loop = c .before in
+    at-loop .loop .inv .1 .framed .long
 
 returns : tie.Need-returns Inv-loop μ-loop
-returns c = let s = (c .before .before .before) in let l = c .before .loop in
-    let e : l .v ≡ s .args .n = omega arith in
+returns c =
+    let at-loop = c .before in
+    let start = at-loop .before .before in
+    let l = at-loop .loop in
+    let e : l .v ≡ start .args .n = omega arith in
     rw e at (l .inv .1)
 
 pub frees-spec : {M : Type 1} → statement M

@@ -14,7 +14,9 @@ shared-slice-read-u : tie.Need-shared-slice-read-u
 shared-slice-read-u c = search needs
 
 cast-u : tie.Need-cast-u
-cast-u c = omega (arith, c .shared-slice-known .given (c .before .args .e))
+cast-u c =
+    let start = c .before in
+    omega (arith, c .shared-slice-known .given (start .args .e))
 
 mul-v : tie.Need-mul-v
 mul-v c = search needs
@@ -23,32 +25,50 @@ shared-slice-read-v : tie.Need-shared-slice-read-v
 shared-slice-read-v c = search needs
 
 cast-v : tie.Need-cast-v
-cast-v c = omega (arith, c .shared-slice-known2 .given (c .before .before .args .e))
+cast-v c =
+    let start = c .before .before in
+    omega (arith, c .shared-slice-known2 .given (start .args .e))
 
 mul-if1 : tie.Need-mul-if1
-mul-if1 c = omega (arith, c .before .before .pre .ground .valid .from-low (c .before .before .args .e) (c .before .before .pre .low), c .before .before .pre .ground .valid .to-low (c .before .before .args .e) (c .before .before .pre .low), c .before .before .pre .ground .size, c .before .before .pre .ground .fits)
+mul-if1 c =
+    let start = c .before .before in
+    omega (arith, start .pre .ground .valid .from-low (start .args .e) (start .pre .low), start .pre .ground .valid .to-low (start .args .e) (start .pre .low), start .pre .ground .size, start .pre .ground .fits)
 
 shared-slice-read-if1 : tie.Need-shared-slice-read-if1
-shared-slice-read-if1 c = omega (arith, c .before .before .before .pre .ground .valid .from-low (c .before .before .before .args .e) (c .before .before .before .pre .low), c .before .before .before .pre .ground .valid .to-low (c .before .before .before .args .e) (c .before .before .before .pre .low), c .before .before .before .pre .ground .size, c .before .before .before .pre .ground .fits)
+shared-slice-read-if1 c =
+    let start = c .before .before .before in
+    omega (arith, start .pre .ground .valid .from-low (start .args .e) (start .pre .low), start .pre .ground .valid .to-low (start .args .e) (start .pre .low), start .pre .ground .size, start .pre .ground .fits)
 
 mul-if1-2 : tie.Need-mul-if1-2
-mul-if1-2 c = omega (arith, c .before .before .before .pre .ground .valid .from-low (c .before .before .before .args .e) (c .before .before .before .pre .low), c .before .before .before .pre .ground .valid .to-low (c .before .before .before .args .e) (c .before .before .before .pre .low), c .before .before .before .pre .ground .size, c .before .before .before .pre .ground .fits)
+mul-if1-2 c =
+    let start = c .before .before .before in
+    omega (arith, start .pre .ground .valid .from-low (start .args .e) (start .pre .low), start .pre .ground .valid .to-low (start .args .e) (start .pre .low), start .pre .ground .size, start .pre .ground .fits)
 
 shared-slice-read-if1-2 : tie.Need-shared-slice-read-if1-2
-shared-slice-read-if1-2 c = omega (arith, c .before .before .before .before .pre .ground .valid .from-low (c .before .before .before .before .args .e) (c .before .before .before .before .pre .low), c .before .before .before .before .pre .ground .valid .to-low (c .before .before .before .before .args .e) (c .before .before .before .before .pre .low), c .before .before .before .before .pre .ground .size, c .before .before .before .before .pre .ground .fits)
+shared-slice-read-if1-2 c =
+    let start = c .before .before .before .before in
+    omega (arith, start .pre .ground .valid .from-low (start .args .e) (start .pre .low), start .pre .ground .valid .to-low (start .args .e) (start .pre .low), start .pre .ground .size, start .pre .ground .fits)
 
 mul-result : tie.Need-mul-result
-mul-result c = omega (arith, c .before .before .before .before .before .pre .ground .valid .from-low (c .before .before .before .before .before .args .e) (c .before .before .before .before .before .pre .low), c .before .before .before .before .before .pre .ground .valid .to-low (c .before .before .before .before .before .args .e) (c .before .before .before .before .before .pre .low), c .before .before .before .before .before .pre .ground .size, c .before .before .before .before .before .pre .ground .fits)
+mul-result c =
+    let start = c .before .before .before .before .before in
+    omega (arith, start .pre .ground .valid .from-low (start .args .e) (start .pre .low), start .pre .ground .valid .to-low (start .args .e) (start .pre .low), start .pre .ground .size, start .pre .ground .fits)
 
 shared-slice-read-result : tie.Need-shared-slice-read-result
-shared-slice-read-result c = omega (arith, c .before .before .before .before .before .before .pre .ground .valid .from-low (c .before .before .before .before .before .before .args .e) (c .before .before .before .before .before .before .pre .low), c .before .before .before .before .before .before .pre .ground .valid .to-low (c .before .before .before .before .before .before .args .e) (c .before .before .before .before .before .before .pre .low), c .before .before .before .before .before .before .pre .ground .size, c .before .before .before .before .before .before .pre .ground .fits)
+shared-slice-read-result c =
+    let start = c .before .before .before .before .before .before in
+    omega (arith, start .pre .ground .valid .from-low (start .args .e) (start .pre .low), start .pre .ground .valid .to-low (start .args .e) (start .pre .low), start .pre .ground .size, start .pre .ground .fits)
 
 cast-result : tie.Need-cast-result
-cast-result c = omega (arith, c .shared-slice-known5 .given (getD (c .before .before .before .before .before .before .args .targets .now) (c .before .before .before .before .before .before .args .e) 0))
+cast-result c =
+    let start = c .before .before .before .before .before .before in
+    omega (arith, c .shared-slice-known5 .given (getD (start .args .targets .now) (start .args .e) 0))
 
 returns : tie.Need-returns
 unfolding lead
-returns c = rw (ne-eqb _ _ (c .before .if1 .taken))
+returns c =
+    let at-if1 = c .before in
+    rw (ne-eqb _ _ (at-if1 .if1 .taken))
 
 mul-x : tie.Need-mul-x
 mul-x c = search needs
@@ -57,24 +77,36 @@ add-x : tie.Need-add-x
 add-x c = search needs
 
 add-x-2 : tie.Need-add-x-2
-add-x-2 c = omega (arith, c .before .before .before .before .before .pre .ground .valid .from-low (c .before .before .before .before .before .args .e) (c .before .before .before .before .before .pre .low), c .before .before .before .before .before .pre .ground .valid .to-low (c .before .before .before .before .before .args .e) (c .before .before .before .before .before .pre .low), c .before .before .before .before .before .pre .ground .size, c .before .before .before .before .before .pre .ground .fits)
+add-x-2 c =
+    let start = c .before .before .before .before .before in
+    omega (arith, start .pre .ground .valid .from-low (start .args .e) (start .pre .low), start .pre .ground .valid .to-low (start .args .e) (start .pre .low), start .pre .ground .size, start .pre .ground .fits)
 
 mul-x-2 : tie.Need-mul-x-2
-mul-x-2 c = omega (arith, c .before .before .before .before .before .pre .ground .valid .from-low (c .before .before .before .before .before .args .e) (c .before .before .before .before .before .pre .low), c .before .before .before .before .before .pre .ground .valid .to-low (c .before .before .before .before .before .args .e) (c .before .before .before .before .before .pre .low), c .before .before .before .before .before .pre .ground .size, c .before .before .before .before .before .pre .ground .fits)
+mul-x-2 c =
+    let start = c .before .before .before .before .before in
+    omega (arith, start .pre .ground .valid .from-low (start .args .e) (start .pre .low), start .pre .ground .valid .to-low (start .args .e) (start .pre .low), start .pre .ground .size, start .pre .ground .fits)
 
 shared-slice-read-x : tie.Need-shared-slice-read-x
-shared-slice-read-x c = omega (arith, c .before .before .before .before .before .before .pre .ground .valid .from-low (c .before .before .before .before .before .before .args .e) (c .before .before .before .before .before .before .pre .low), c .before .before .before .before .before .before .pre .ground .valid .to-low (c .before .before .before .before .before .before .args .e) (c .before .before .before .before .before .before .pre .low), c .before .before .before .before .before .before .pre .ground .size, c .before .before .before .before .before .before .pre .ground .fits)
+shared-slice-read-x c =
+    let start = c .before .before .before .before .before .before in
+    omega (arith, start .pre .ground .valid .from-low (start .args .e) (start .pre .low), start .pre .ground .valid .to-low (start .args .e) (start .pre .low), start .pre .ground .size, start .pre .ground .fits)
 
 cast-x : tie.Need-cast-x
-cast-x c = omega (arith, c .shared-slice-known6 .given (c .before .before .before .before .before .before .args .b + 3 * c .before .before .before .before .before .before .args .n + getD (c .before .before .before .before .before .before .args .targets .now) (c .before .before .before .before .before .before .args .e) 0))
+cast-x c =
+    let start = c .before .before .before .before .before .before in
+    omega (arith, c .shared-slice-known6 .given (start .args .b + 3 * start .args .n + getD (start .args .targets .now) (start .args .e) 0))
 
 returns-2 : tie.Need-returns-2
 unfolding lead
-returns-2 c = rw (eq-eqb _ _ (c .before .before .if1 .left), eq-eqb _ _ (c .if2 .taken))
+returns-2 c =
+    let at-if1 = c .before .before in
+    rw (eq-eqb _ _ (at-if1 .if1 .left), eq-eqb _ _ (c .if2 .taken))
 
 returns-3 : tie.Need-returns-3
 unfolding lead
-returns-3 c = rw (eq-eqb _ _ (c .before .before .if1 .left), ne-eqb _ _ (c .if2 .left))
+returns-3 c =
+    let at-if1 = c .before .before in
+    rw (eq-eqb _ _ (at-if1 .if1 .left), ne-eqb _ _ (c .if2 .left))
 
 pub lead-spec : {M : Type 1} → statement M
 lead-spec =

@@ -15,65 +15,131 @@ abbrev μ-loop : tie.MeasureT-loop
 μ-loop sources targets n label w₀ b k0 k₀ h₀ w k h = n - h
 
 loop-holds : tie.Need-loop-holds Inv-loop μ-loop
-loop-holds c = let s = (c .before .before .before .before) in (omega arith, ranking-none (s .args .n) (s .args .b) (s .args .w .now), λ a. take-none a)
+loop-holds c =
+    let start = c .before .before .before .before in
+    (omega arith, ranking-none (start .args .n) (start .args .b) (start .args .w .now), λ a. take-none a)
 
 mul-u : tie.Need-mul-u Inv-loop μ-loop
-mul-u c = let s = (c .before .before .before .before .before .before) in let l = c .before .loop in omega (arith, s .pre .ground .fits, s .pre .ground .small, l .inv .1 .long, queue-few (s .pre) (l .inv .2 (s .pre)), s .pre .below)
+mul-u c =
+    let at-loop = c .before in
+    let start = at-loop .before .before .before .before .before in
+    let l = at-loop .loop in omega (arith, start .pre .ground .fits, start .pre .ground .small, l .inv .1 .long, queue-few (start .pre) (l .inv .2 (start .pre)), start .pre .below)
 
 add-u : tie.Need-add-u Inv-loop μ-loop
-add-u c = let s = (c .before .before .before .before .before .before) in let l = c .before .loop in omega (arith, s .pre .ground .fits, s .pre .ground .small, l .inv .1 .long, queue-few (s .pre) (l .inv .2 (s .pre)), s .pre .below)
+add-u c =
+    let at-loop = c .before in
+    let start = at-loop .before .before .before .before .before in
+    let l = at-loop .loop in omega (arith, start .pre .ground .fits, start .pre .ground .small, l .inv .1 .long, queue-few (start .pre) (l .inv .2 (start .pre)), start .pre .below)
 
 add-u-2 : tie.Need-add-u-2 Inv-loop μ-loop
-add-u-2 c = let s = (c .before .before .before .before .before .before) in let l = c .before .loop in omega (arith, s .pre .ground .fits, s .pre .ground .small, l .inv .1 .long, queue-few (s .pre) (l .inv .2 (s .pre)), s .pre .below)
+add-u-2 c =
+    let at-loop = c .before in
+    let start = at-loop .before .before .before .before .before in
+    let l = at-loop .loop in omega (arith, start .pre .ground .fits, start .pre .ground .small, l .inv .1 .long, queue-few (start .pre) (l .inv .2 (start .pre)), start .pre .below)
 
 mul-u-2 : tie.Need-mul-u-2 Inv-loop μ-loop
-mul-u-2 c = let s = (c .before .before .before .before .before .before) in let l = c .before .loop in omega (arith, s .pre .ground .fits, s .pre .ground .small, l .inv .1 .long, queue-few (s .pre) (l .inv .2 (s .pre)), s .pre .below)
+mul-u-2 c =
+    let at-loop = c .before in
+    let start = at-loop .before .before .before .before .before in
+    let l = at-loop .loop in omega (arith, start .pre .ground .fits, start .pre .ground .small, l .inv .1 .long, queue-few (start .pre) (l .inv .2 (start .pre)), start .pre .below)
 
 slice-read-u : tie.Need-slice-read-u Inv-loop μ-loop
-slice-read-u c = let s = (c .before .before .before .before .before .before .before) in let l = c .before .before .loop in omega (arith, s .pre .ground .fits, s .pre .ground .small, l .inv .1 .long, queue-few (s .pre) (l .inv .2 (s .pre)), s .pre .below)
+slice-read-u c =
+    let at-loop = c .before .before in
+    let start = at-loop .before .before .before .before .before in
+    let l = at-loop .loop in omega (arith, start .pre .ground .fits, start .pre .ground .small, l .inv .1 .long, queue-few (start .pre) (l .inv .2 (start .pre)), start .pre .below)
 
 cast-u : tie.Need-cast-u Inv-loop μ-loop
-cast-u c = omega (arith, c .slice-known2 .given (c .before .before .before .before .before .before .before .args .b + 2 * c .before .before .before .before .before .before .before .args .n + c .before .before .loop .h))
+cast-u c =
+    let at-loop = c .before .before in
+    let start = at-loop .before .before .before .before .before in
+    omega (arith, c .slice-known2 .given (start .args .b + 2 * start .args .n + at-loop .loop .h))
 
 mul-s : tie.Need-mul-s Inv-loop μ-loop
-mul-s c = let s = (c .before .before .before .before .before .before .before) in let l = c .before .before .loop in omega (arith, s .pre .ground .fits, s .pre .ground .small, l .inv .1 .long, queue-few (s .pre) (l .inv .2 (s .pre)), s .pre .below, u-low (s .pre) (l .h) (l .k) (l .w) (l .inv .1) (l .inv .2 (s .pre)) (c .before .loop-test .taken))
+mul-s c =
+    let at-loop-test = c .before in
+    let at-loop = at-loop-test .before in
+    let start = at-loop .before .before .before .before .before in
+    let l = at-loop .loop in omega (arith, start .pre .ground .fits, start .pre .ground .small, l .inv .1 .long, queue-few (start .pre) (l .inv .2 (start .pre)), start .pre .below, u-low (start .pre) (l .h) (l .k) (l .w) (l .inv .1) (l .inv .2 (start .pre)) (at-loop-test .loop-test .taken))
 
 slice-read-s : tie.Need-slice-read-s Inv-loop μ-loop
-slice-read-s c = let s = (c .before .before .before .before .before .before .before .before) in let l = c .before .before .before .loop in omega (arith, s .pre .ground .fits, s .pre .ground .small, l .inv .1 .long, queue-few (s .pre) (l .inv .2 (s .pre)), s .pre .below, u-low (s .pre) (l .h) (l .k) (l .w) (l .inv .1) (l .inv .2 (s .pre)) (c .before .before .loop-test .taken))
+slice-read-s c =
+    let at-loop-test = c .before .before in
+    let at-loop = at-loop-test .before in
+    let start = at-loop .before .before .before .before .before in
+    let l = at-loop .loop in omega (arith, start .pre .ground .fits, start .pre .ground .small, l .inv .1 .long, queue-few (start .pre) (l .inv .2 (start .pre)), start .pre .below, u-low (start .pre) (l .h) (l .k) (l .w) (l .inv .1) (l .inv .2 (start .pre)) (at-loop-test .loop-test .taken))
 
 cast-s : tie.Need-cast-s Inv-loop μ-loop
-cast-s c = omega (arith, c .slice-known3 .given (getD (c .before .before .before .loop .w) (c .before .before .before .before .before .before .before .before .args .b + 2 * c .before .before .before .before .before .before .before .before .args .n + c .before .before .before .loop .h) 0))
+cast-s c =
+    let at-loop = c .before .before .before in
+    let start = at-loop .before .before .before .before .before in
+    omega (arith, c .slice-known3 .given (getD (at-loop .loop .w) (start .args .b + 2 * start .args .n + at-loop .loop .h) 0))
 
 add-t : tie.Need-add-t Inv-loop μ-loop
-add-t c = let s = (c .before .before .before .before .before .before .before .before) in let l = c .before .before .before .loop in omega (arith, s .pre .ground .fits, s .pre .ground .small, l .inv .1 .long, queue-few (s .pre) (l .inv .2 (s .pre)), s .pre .below, u-low (s .pre) (l .h) (l .k) (l .w) (l .inv .1) (l .inv .2 (s .pre)) (c .before .before .loop-test .taken))
+add-t c =
+    let at-loop-test = c .before .before in
+    let at-loop = at-loop-test .before in
+    let start = at-loop .before .before .before .before .before in
+    let l = at-loop .loop in omega (arith, start .pre .ground .fits, start .pre .ground .small, l .inv .1 .long, queue-few (start .pre) (l .inv .2 (start .pre)), start .pre .below, u-low (start .pre) (l .h) (l .k) (l .w) (l .inv .1) (l .inv .2 (start .pre)) (at-loop-test .loop-test .taken))
 
 mul-t : tie.Need-mul-t Inv-loop μ-loop
-mul-t c = let s = (c .before .before .before .before .before .before .before .before) in let l = c .before .before .before .loop in omega (arith, s .pre .ground .fits, s .pre .ground .small, l .inv .1 .long, queue-few (s .pre) (l .inv .2 (s .pre)), s .pre .below, u-low (s .pre) (l .h) (l .k) (l .w) (l .inv .1) (l .inv .2 (s .pre)) (c .before .before .loop-test .taken))
+mul-t c =
+    let at-loop-test = c .before .before in
+    let at-loop = at-loop-test .before in
+    let start = at-loop .before .before .before .before .before in
+    let l = at-loop .loop in omega (arith, start .pre .ground .fits, start .pre .ground .small, l .inv .1 .long, queue-few (start .pre) (l .inv .2 (start .pre)), start .pre .below, u-low (start .pre) (l .h) (l .k) (l .w) (l .inv .1) (l .inv .2 (start .pre)) (at-loop-test .loop-test .taken))
 
 slice-read-t : tie.Need-slice-read-t Inv-loop μ-loop
-slice-read-t c = let s = (c .before .before .before .before .before .before .before .before .before) in let l = c .before .before .before .before .loop in omega (arith, s .pre .ground .fits, s .pre .ground .small, l .inv .1 .long, queue-few (s .pre) (l .inv .2 (s .pre)), s .pre .below, u-low (s .pre) (l .h) (l .k) (l .w) (l .inv .1) (l .inv .2 (s .pre)) (c .before .before .before .loop-test .taken))
+slice-read-t c =
+    let at-loop-test = c .before .before .before in
+    let at-loop = at-loop-test .before in
+    let start = at-loop .before .before .before .before .before in
+    let l = at-loop .loop in omega (arith, start .pre .ground .fits, start .pre .ground .small, l .inv .1 .long, queue-few (start .pre) (l .inv .2 (start .pre)), start .pre .below, u-low (start .pre) (l .h) (l .k) (l .w) (l .inv .1) (l .inv .2 (start .pre)) (at-loop-test .loop-test .taken))
 
 cast-t : tie.Need-cast-t Inv-loop μ-loop
-cast-t c = omega (arith, c .slice-known4 .given (getD (c .before .before .before .before .loop .w) (c .before .before .before .before .before .before .before .before .before .args .b + 2 * c .before .before .before .before .before .before .before .before .before .args .n + c .before .before .before .before .loop .h) 0 + 1))
+cast-t c =
+    let at-loop = c .before .before .before .before in
+    let start = at-loop .before .before .before .before .before in
+    omega (arith, c .slice-known4 .given (getD (at-loop .loop .w) (start .args .b + 2 * start .args .n + at-loop .loop .h) 0 + 1))
 
 scan-requires : tie.Need-scan-requires Inv-loop μ-loop
-scan-requires c κs = let s = (c .before .before .before .before .before .before .before .before .before .before) in let l = c .before .before .before .before .before .loop in take-ask-read (s .pre) (l .h) (l .k) (l .w) (l .inv .1) (l .inv .2 (s .pre)) (c .before .before .before .before .loop-test .taken)
+scan-requires c κs =
+    let at-loop-test = c .before .before .before .before in
+    let at-loop = at-loop-test .before in
+    let start = at-loop .before .before .before .before .before in
+    let l = at-loop .loop in take-ask-read (start .pre) (l .h) (l .k) (l .w) (l .inv .1) (l .inv .2 (start .pre)) (at-loop-test .loop-test .taken)
 
 add-h : tie.Need-add-h Inv-loop μ-loop
-add-h c = let s = (c .before .before .before .before .before .before .before .before .before .before .before .before .before) in let l = c .before .before .before .before .before .before .before .before .loop in omega (arith, s .pre .ground .fits, s .pre .ground .small, l .inv .1 .long, queue-few (s .pre) (l .inv .2 (s .pre)), s .pre .below)
+add-h c =
+    let at-loop = c .before .before .before .before .before .before .before .before in
+    let start = at-loop .before .before .before .before .before in
+    let l = at-loop .loop in omega (arith, start .pre .ground .fits, start .pre .ground .small, l .inv .1 .long, queue-few (start .pre) (l .inv .2 (start .pre)), start .pre .below)
 
 loop-less : tie.Need-loop-less Inv-loop μ-loop
-loop-less c = let s = (c .before .before .before .before .before .before .before .before .before .before .before .before .before) in let l = c .before .before .before .before .before .before .before .before .loop in omega (arith, s .pre .ground .fits, s .pre .ground .small, l .inv .1 .long, queue-few (s .pre) (l .inv .2 (s .pre)), s .pre .below)
+loop-less c =
+    let at-loop = c .before .before .before .before .before .before .before .before in
+    let start = at-loop .before .before .before .before .before in
+    let l = at-loop .loop in omega (arith, start .pre .ground .fits, start .pre .ground .small, l .inv .1 .long, queue-few (start .pre) (l .inv .2 (start .pre)), start .pre .below)
 
 loop-again : tie.Need-loop-again Inv-loop μ-loop
-loop-again c = let s = (c .before .before .before .before .before .before .before .before .before .before .before .before .before) in let l = c .before .before .before .before .before .before .before .before .loop in let y = take-step-read (s .pre) (l .h) (l .k) (l .w) (l .inv .1) (l .inv .2 (s .pre)) (c .before .before .before .before .before .before .before .loop-test .taken) _ _ (c .before .before .scan .ensures) in
-    (omega (arith, y .2), y .0, λ a. take-step-read a (l .h) (l .k) (l .w) (l .inv .1) (l .inv .2 a) (c .before .before .before .before .before .before .before .loop-test .taken) _ _ (c .before .before .scan .ensures) .1)
+loop-again c =
+    let at-scan = c .before .before in
+    let at-loop-test = at-scan .before .before .before .before .before in
+    let at-loop = at-loop-test .before in
+    let start = at-loop .before .before .before .before .before in
+    let l = at-loop .loop in let y = take-step-read (start .pre) (l .h) (l .k) (l .w) (l .inv .1) (l .inv .2 (start .pre)) (at-loop-test .loop-test .taken) _ _ (at-scan .scan .ensures) in
+    (omega (arith, y .2), y .0, λ a. take-step-read a (l .h) (l .k) (l .w) (l .inv .1) (l .inv .2 a) (at-loop-test .loop-test .taken) _ _ (at-scan .scan .ensures) .1)
 
 same-length : tie.Need-same-length Inv-loop μ-loop
-same-length c = c .before .loop .inv .1 .long
+same-length c =
+    let at-loop = c .before in
+    at-loop .loop .inv .1 .long
 
 returns : tie.Need-returns Inv-loop μ-loop
-returns c = let s = (c .before .before .before .before .before .before) in let l = c .before .loop in record { frame = l .inv .1; ended = λ a. take-end a (l .h) (l .k) (l .w) (l .inv .2 a) (c .loop-test .left) }
+returns c =
+    let at-loop = c .before in
+    let start = at-loop .before .before .before .before .before in
+    let l = at-loop .loop in record { frame = l .inv .1; ended = λ a. take-end a (l .h) (l .k) (l .w) (l .inv .2 a) (c .loop-test .left) }
 
 pub peel-spec : {M : Type 1} → statement M
 peel-spec =

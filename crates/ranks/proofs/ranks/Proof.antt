@@ -7,28 +7,58 @@ use Rattle.ranks.proofs.ranks.Statement.{statement}
 use Rattle.ranks.proofs.ranks.Tie as tie
 
 mul-fill : tie.Need-mul-fill
-mul-fill c = let s = (c .before .before .before .before .before) in omega (arith, s .pre .ground .small)
+mul-fill c =
+    let start = c .before .before .before .before .before in
+    omega (arith, start .pre .ground .small)
 
 add-fill : tie.Need-add-fill
-add-fill c = let s = (c .before .before .before .before .before) in omega (arith, s .pre .ground .fits)
+add-fill c =
+    let start = c .before .before .before .before .before in
+    omega (arith, start .pre .ground .fits)
 
 fill-requires : tie.Need-fill-requires
-fill-requires c κs = let s = (c .before .before .before .before .before) in omega (arith, s .pre .ground .fits)
+fill-requires c κs =
+    let start = c .before .before .before .before .before in
+    omega (arith, start .pre .ground .fits)
 
 counts-requires : tie.Need-counts-requires
-counts-requires c κs = let s = (c .before .before .before .before .before .before .before .before .before) in record { valid = s .pre .ground .valid; size = s .pre .ground .size; labels-low = s .pre .ground .labels-low; small = s .pre .ground .small; few = s .pre .ground .few; fits = omega (arith, s .pre .ground .fits, c .before .before .before .fill .ensures .framed .long) }
+counts-requires c κs =
+    let at-fill = c .before .before .before in
+    let start = at-fill .before .before .before .before .before .before in
+    record { valid = start .pre .ground .valid; size = start .pre .ground .size; labels-low = start .pre .ground .labels-low; small = start .pre .ground .small; few = start .pre .ground .few; fits = omega (arith, start .pre .ground .fits, at-fill .fill .ensures .framed .long) }
 
 frees-requires : tie.Need-frees-requires
-frees-requires c κs = let s = (c .before .before .before .before .before .before .before .before .before .before .before .before .before) in record { small = s .pre .ground .small; fits = omega (arith, s .pre .ground .fits, c .before .before .before .before .before .before .before .fill .ensures .framed .long, c .before .before .before .counts .ensures .framed .long) }
+frees-requires c κs =
+    let at-counts = c .before .before .before in
+    let at-fill = at-counts .before .before .before .before in
+    let start = at-fill .before .before .before .before .before .before in
+    record { small = start .pre .ground .small; fits = omega (arith, start .pre .ground .fits, at-fill .fill .ensures .framed .long, at-counts .counts .ensures .framed .long) }
 
 peel-requires : tie.Need-peel-requires
-peel-requires c κs = let s = (c .before .before .before .before .before .before .before .before .before .before .before .before .before .before .before .before .before) in begin (s .pre) (c .before .before .before .before .before .before .before .before .before .before .before .fill .ensures) (c .before .before .before .before .before .before .before .counts .ensures) (c .before .before .before .frees .ensures) (region (inEdges (s .args .n) (s .args .b)) (s .args .w .now)) (λ v l. refl)
+peel-requires c κs =
+    let at-frees = c .before .before .before in
+    let at-counts = at-frees .before .before .before .before in
+    let at-fill = at-counts .before .before .before .before in
+    let start = at-fill .before .before .before .before .before .before in
+    begin (start .pre) (at-fill .fill .ensures) (at-counts .counts .ensures) (at-frees .frees .ensures) (region (inEdges (start .args .n) (start .args .b)) (start .args .w .now)) (λ v l. refl)
 
 same-length : tie.Need-same-length
-same-length c = let s = (c .before .before .before .before .before .before .before .before .before .before .before .before .before .before .before .before .before .before .before .before) in ranks-end (s .pre) (c .before .before .before .before .before .before .before .before .before .before .before .before .before .before .fill .ensures) (c .before .before .before .before .before .before .before .before .before .before .counts .ensures) (c .before .before .before .before .before .before .frees .ensures) _ _ (c .before .before .peel .ensures) .frame .long
+same-length c =
+    let at-peel = c .before .before in
+    let at-frees = at-peel .before .before .before .before in
+    let at-counts = at-frees .before .before .before .before in
+    let at-fill = at-counts .before .before .before .before in
+    let start = at-fill .before .before .before .before .before .before in
+    ranks-end (start .pre) (at-fill .fill .ensures) (at-counts .counts .ensures) (at-frees .frees .ensures) _ _ (at-peel .peel .ensures) .frame .long
 
 returns : tie.Need-returns
-returns c = let s = (c .before .before .before .before .before .before .before .before .before .before .before .before .before .before .before .before .before .before .before .before) in ranks-end (s .pre) (c .before .before .before .before .before .before .before .before .before .before .before .before .before .before .fill .ensures) (c .before .before .before .before .before .before .before .before .before .before .counts .ensures) (c .before .before .before .before .before .before .frees .ensures) _ _ (c .before .before .peel .ensures)
+returns c =
+    let at-peel = c .before .before in
+    let at-frees = at-peel .before .before .before .before in
+    let at-counts = at-frees .before .before .before .before in
+    let at-fill = at-counts .before .before .before .before in
+    let start = at-fill .before .before .before .before .before .before in
+    ranks-end (start .pre) (at-fill .fill .ensures) (at-counts .counts .ensures) (at-frees .frees .ensures) _ _ (at-peel .peel .ensures)
 
 pub ranks-spec : {M : Type 1} → statement M
 ranks-spec =

@@ -13,7 +13,9 @@ shared-slice-read-u : tie.Need-shared-slice-read-u
 shared-slice-read-u c = search needs
 
 cast-u : tie.Need-cast-u
-cast-u c = omega (arith, c .shared-slice-known .given (c .before .args .e))
+cast-u c =
+    let start = c .before in
+    omega (arith, c .shared-slice-known .given (start .args .e))
 
 mul-v : tie.Need-mul-v
 mul-v c = search needs
@@ -22,19 +24,29 @@ shared-slice-read-v : tie.Need-shared-slice-read-v
 shared-slice-read-v c = search needs
 
 cast-v : tie.Need-cast-v
-cast-v c = omega (arith, c .shared-slice-known2 .given (c .before .before .args .e))
+cast-v c =
+    let start = c .before .before in
+    omega (arith, c .shared-slice-known2 .given (start .args .e))
 
 mul-if1 : tie.Need-mul-if1
-mul-if1 c = omega (arith, c .before .before .pre .ground .valid .from-low (c .before .before .args .e) (c .before .before .pre .low), c .before .before .pre .ground .valid .to-low (c .before .before .args .e) (c .before .before .pre .low), c .before .before .pre .ground .size, c .before .before .pre .ground .fits)
+mul-if1 c =
+    let start = c .before .before in
+    omega (arith, start .pre .ground .valid .from-low (start .args .e) (start .pre .low), start .pre .ground .valid .to-low (start .args .e) (start .pre .low), start .pre .ground .size, start .pre .ground .fits)
 
 shared-slice-read-if1 : tie.Need-shared-slice-read-if1
-shared-slice-read-if1 c = omega (arith, c .before .before .before .pre .ground .valid .from-low (c .before .before .before .args .e) (c .before .before .before .pre .low), c .before .before .before .pre .ground .valid .to-low (c .before .before .before .args .e) (c .before .before .before .pre .low), c .before .before .before .pre .ground .size, c .before .before .before .pre .ground .fits)
+shared-slice-read-if1 c =
+    let start = c .before .before .before in
+    omega (arith, start .pre .ground .valid .from-low (start .args .e) (start .pre .low), start .pre .ground .valid .to-low (start .args .e) (start .pre .low), start .pre .ground .size, start .pre .ground .fits)
 
 mul-if1-2 : tie.Need-mul-if1-2
-mul-if1-2 c = omega (arith, c .before .before .before .pre .ground .valid .from-low (c .before .before .before .args .e) (c .before .before .before .pre .low), c .before .before .before .pre .ground .valid .to-low (c .before .before .before .args .e) (c .before .before .before .pre .low), c .before .before .before .pre .ground .size, c .before .before .before .pre .ground .fits)
+mul-if1-2 c =
+    let start = c .before .before .before in
+    omega (arith, start .pre .ground .valid .from-low (start .args .e) (start .pre .low), start .pre .ground .valid .to-low (start .args .e) (start .pre .low), start .pre .ground .size, start .pre .ground .fits)
 
 shared-slice-read-if1-2 : tie.Need-shared-slice-read-if1-2
-shared-slice-read-if1-2 c = omega (arith, c .before .before .before .before .pre .ground .valid .from-low (c .before .before .before .before .args .e) (c .before .before .before .before .pre .low), c .before .before .before .before .pre .ground .valid .to-low (c .before .before .before .before .args .e) (c .before .before .before .before .pre .low), c .before .before .before .before .pre .ground .size, c .before .before .before .before .pre .ground .fits)
+shared-slice-read-if1-2 c =
+    let start = c .before .before .before .before in
+    omega (arith, start .pre .ground .valid .from-low (start .args .e) (start .pre .low), start .pre .ground .valid .to-low (start .args .e) (start .pre .low), start .pre .ground .size, start .pre .ground .fits)
 
 returns : tie.Need-returns
 unfolding rise

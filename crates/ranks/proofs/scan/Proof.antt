@@ -15,25 +15,46 @@ abbrev μ-loop : tie.MeasureT-loop
 μ-loop sources targets n label w₀ b s t u k0 k₀ j₀ w k j = t - j
 
 loop-holds : tie.Need-loop-holds Inv-loop μ-loop
-loop-holds c = (omega arith, c .before .before .before .before .pre .order, λ a. scan-none a)
+loop-holds c =
+    let start = c .before .before .before .before in
+    (omega arith, start .pre .order, λ a. scan-none a)
 
 add-e : tie.Need-add-e Inv-loop μ-loop
-add-e c = let s = (c .before .before .before .before .before .before) in omega (arith, s .pre .below, s .pre .ground .fits, c .before .loop .inv .2 (s .pre) .onward .frame .long)
+add-e c =
+    let at-loop = c .before in
+    let start = at-loop .before .before .before .before .before in
+    omega (arith, start .pre .below, start .pre .ground .fits, at-loop .loop .inv .2 (start .pre) .onward .frame .long)
 
 add-e-2 : tie.Need-add-e-2 Inv-loop μ-loop
-add-e-2 c = let s = (c .before .before .before .before .before .before) in omega (arith, s .pre .below, s .pre .ground .fits, c .before .loop .inv .2 (s .pre) .onward .frame .long)
+add-e-2 c =
+    let at-loop = c .before in
+    let start = at-loop .before .before .before .before .before in
+    omega (arith, start .pre .below, start .pre .ground .fits, at-loop .loop .inv .2 (start .pre) .onward .frame .long)
 
 mul-e : tie.Need-mul-e Inv-loop μ-loop
-mul-e c = let s = (c .before .before .before .before .before .before) in omega (arith, s .pre .below, s .pre .ground .fits, c .before .loop .inv .2 (s .pre) .onward .frame .long)
+mul-e c =
+    let at-loop = c .before in
+    let start = at-loop .before .before .before .before .before in
+    omega (arith, start .pre .below, start .pre .ground .fits, at-loop .loop .inv .2 (start .pre) .onward .frame .long)
 
 slice-read-e : tie.Need-slice-read-e Inv-loop μ-loop
-slice-read-e c = let s = (c .before .before .before .before .before .before .before) in omega (arith, s .pre .below, s .pre .ground .fits, c .before .before .loop .inv .2 (s .pre) .onward .frame .long)
+slice-read-e c =
+    let at-loop = c .before .before in
+    let start = at-loop .before .before .before .before .before in
+    omega (arith, start .pre .below, start .pre .ground .fits, at-loop .loop .inv .2 (start .pre) .onward .frame .long)
 
 cast-e : tie.Need-cast-e Inv-loop μ-loop
-cast-e c = omega (arith, c .slice-known2 .given (c .before .before .before .before .before .before .before .args .n + 1 + c .before .before .loop .j))
+cast-e c =
+    let at-loop = c .before .before in
+    let start = at-loop .before .before .before .before .before in
+    omega (arith, c .slice-known2 .given (start .args .n + 1 + at-loop .loop .j))
 
 settle-requires : tie.Need-settle-requires Inv-loop μ-loop
-settle-requires c κs = let s = (c .before .before .before .before .before .before .before .before) in let l = c .before .before .before .loop in scan-ask (s .pre) (l .j) (l .w) (l .k) (l .inv .2 (s .pre)) (l .inv .0) (c .before .before .loop-test .taken)
+settle-requires c κs =
+    let at-loop-test = c .before .before in
+    let at-loop = at-loop-test .before in
+    let start = at-loop .before .before .before .before .before in
+    let l = at-loop .loop in scan-ask (start .pre) (l .j) (l .w) (l .k) (l .inv .2 (start .pre)) (l .inv .0) (at-loop-test .loop-test .taken)
 
 add-j : tie.Need-add-j Inv-loop μ-loop
 add-j c = omega arith
@@ -42,14 +63,25 @@ loop-less : tie.Need-loop-less Inv-loop μ-loop
 loop-less c = omega arith
 
 loop-again : tie.Need-loop-again Inv-loop μ-loop
-loop-again c = let s = (c .before .before .before .before .before .before .before .before .before .before .before) in let l = c .before .before .before .before .before .before .loop in (omega arith, omega arith, λ a. scan-step a (l .j) (l .w) (l .k) (l .inv .2 a) (l .inv .0) (c .before .before .before .before .before .loop-test .taken) _ _ (c .before .before .settle .ensures))
+loop-again c =
+    let at-settle = c .before .before in
+    let at-loop-test = at-settle .before .before .before in
+    let at-loop = at-loop-test .before in
+    let start = at-loop .before .before .before .before .before in
+    let l = at-loop .loop in (omega arith, omega arith, λ a. scan-step a (l .j) (l .w) (l .k) (l .inv .2 a) (l .inv .0) (at-loop-test .loop-test .taken) _ _ (at-settle .settle .ensures))
 
 same-length : tie.Need-same-length Inv-loop μ-loop
-same-length c = let s = (c .before .before .before .before .before .before) in c .before .loop .inv .2 (s .pre) .onward .frame .long
+same-length c =
+    let at-loop = c .before in
+    let start = at-loop .before .before .before .before .before in
+    at-loop .loop .inv .2 (start .pre) .onward .frame .long
 
 returns : tie.Need-returns Inv-loop μ-loop
-returns c = let s = (c .before .before .before .before .before .before) in let l = c .before .loop in
-    let e : l .j ≡ s .args .t = omega arith in
+returns c =
+    let at-loop = c .before in
+    let start = at-loop .before .before .before .before .before in
+    let l = at-loop .loop in
+    let e : l .j ≡ start .args .t = omega arith in
     λ a. rw e at (l .inv .2 a)
 
 pub scan-spec : {M : Type 1} → statement M

@@ -38,19 +38,26 @@ loop-less : tie.Need-loop-less Inv-loop μ-loop
 loop-less c = omega arith
 
 loop-again : tie.Need-loop-again Inv-loop μ-loop
-loop-again c = let s = (c .before .before .before) in let l = c .before .before .loop in (
-  omega arith,
-  simp length-set (l .inv .1),
-  below-more _ _
-      (λ v k. getD-set-other (l .column) (l .i) v _ 0 (λ q. omega arith) ∙ l .inv .2 v k)
-      (getD-set-same (l .column) (l .i) _ 0 (omega arith)),
-)
+loop-again c =
+    let at-loop = c .before .before in
+    let start = at-loop .before in
+    let l = at-loop .loop in (
+      omega arith,
+      simp length-set (l .inv .1),
+      below-more _ _
+          (λ v k. getD-set-other (l .column) (l .i) v _ 0 (λ q. omega arith) ∙ l .inv .2 v k)
+          (getD-set-same (l .column) (l .i) _ 0 (omega arith)),
+    )
 
 same-length : tie.Need-same-length Inv-loop μ-loop
-same-length c = c .before .loop .inv .1
+same-length c =
+    let at-loop = c .before in
+    at-loop .loop .inv .1
 
 returns : tie.Need-returns Inv-loop μ-loop
-returns c = record { long = c .before .loop .inv .1; each = λ v k. c .before .loop .inv .2 v (omega arith) }
+returns c =
+    let at-loop = c .before in
+    record { long = at-loop .loop .inv .1; each = λ v k. at-loop .loop .inv .2 v (omega arith) }
 
 pub copy-spec : {M : Type 1} → statement M
 copy-spec =

@@ -17,13 +17,22 @@ loop-holds : tie.Need-loop-holds Inv-loop μ-loop
 loop-holds c = (omega arith, fill-none _ _ _)
 
 add-w : tie.Need-add-w Inv-loop μ-loop
-add-w c = let s = (c .before .before) in omega (arith, s .pre, c .before .loop .inv .1 .framed .long)
+add-w c =
+    let at-loop = c .before in
+    let start = at-loop .before in
+    omega (arith, start .pre, at-loop .loop .inv .1 .framed .long)
 
 mul-w : tie.Need-mul-w Inv-loop μ-loop
-mul-w c = let s = (c .before .before) in omega (arith, s .pre, c .before .loop .inv .1 .framed .long)
+mul-w c =
+    let at-loop = c .before in
+    let start = at-loop .before in
+    omega (arith, start .pre, at-loop .loop .inv .1 .framed .long)
 
 slice-write-w : tie.Need-slice-write-w Inv-loop μ-loop
-slice-write-w c = let s = (c .before .before) in omega (arith, s .pre, c .before .loop .inv .1 .framed .long)
+slice-write-w c =
+    let at-loop = c .before in
+    let start = at-loop .before in
+    omega (arith, start .pre, at-loop .loop .inv .1 .framed .long)
 
 add-i : tie.Need-add-i Inv-loop μ-loop
 add-i c = omega arith
@@ -32,14 +41,22 @@ loop-less : tie.Need-loop-less Inv-loop μ-loop
 loop-less c = omega arith
 
 loop-again : tie.Need-loop-again Inv-loop μ-loop
-loop-again c = let s = (c .before .before) in let l = c .before .loop in (omega arith, fill-step (s .args .a) (s .args .x) (s .args .w .now) (l .i) (l .w) (l .inv .1) (omega (arith, s .pre, l .inv .1 .framed .long)))
+loop-again c =
+    let at-loop = c .before in
+    let start = at-loop .before in
+    let l = at-loop .loop in (omega arith, fill-step (start .args .a) (start .args .x) (start .args .w .now) (l .i) (l .w) (l .inv .1) (omega (arith, start .pre, l .inv .1 .framed .long)))
 
 same-length : tie.Need-same-length Inv-loop μ-loop
-same-length c = c .before .loop .inv .1 .framed .long
+same-length c =
+    let at-loop = c .before in
+    at-loop .loop .inv .1 .framed .long
 
 returns : tie.Need-returns Inv-loop μ-loop
-returns c = let s = (c .before .before) in let l = c .before .loop in
-    let e : l .i ≡ s .args .n = omega arith in
+returns c =
+    let at-loop = c .before in
+    let start = at-loop .before in
+    let l = at-loop .loop in
+    let e : l .i ≡ start .args .n = omega arith in
     rw e at (l .inv .1)
 
 pub fill-spec : {M : Type 1} → statement M

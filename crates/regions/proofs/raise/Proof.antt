@@ -11,7 +11,9 @@ slice-read-if1 : tie.Need-slice-read-if1
 slice-read-if1 c = search needs
 
 returns : tie.Need-returns
-returns c = let s = (c .before .before) in raise-none (s .args .p) (s .args .x) (s .args .w .now) (c .if1 .taken)
+returns c =
+    let start = c .before .before in
+    raise-none (start .args .p) (start .args .x) (start .args .w .now) (c .if1 .taken)
 
 mul-w : tie.Need-mul-w
 mul-w c = search needs
@@ -23,7 +25,9 @@ same-length : tie.Need-same-length
 same-length c = search needs
 
 returns-2 : tie.Need-returns-2
-returns-2 c = let s = (c .before .before) in raise-set (s .args .p) (s .args .x) (s .args .w .now) (s .pre) (c .if1 .left)
+returns-2 c =
+    let start = c .before .before in
+    raise-set (start .args .p) (start .args .x) (start .args .w .now) (start .pre) (c .if1 .left)
 
 pub raise-spec : {M : Type 1} → statement M
 raise-spec =

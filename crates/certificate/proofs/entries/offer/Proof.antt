@@ -16,7 +16,9 @@ shared-slice-read-u : tie.Need-shared-slice-read-u
 shared-slice-read-u c = search needs
 
 cast-u : tie.Need-cast-u
-cast-u c = omega (arith, c .shared-slice-known .given (c .before .args .e))
+cast-u c =
+    let start = c .before in
+    omega (arith, c .shared-slice-known .given (start .args .e))
 
 mul-v : tie.Need-mul-v
 mul-v c = search needs
@@ -25,73 +27,113 @@ shared-slice-read-v : tie.Need-shared-slice-read-v
 shared-slice-read-v c = search needs
 
 cast-v : tie.Need-cast-v
-cast-v c = omega (arith, c .shared-slice-known2 .given (c .before .before .args .e))
+cast-v c =
+    let start = c .before .before in
+    omega (arith, c .shared-slice-known2 .given (start .args .e))
 
 mul-if1 : tie.Need-mul-if1
-mul-if1 c = omega (arith, c .before .before .pre .ask .valid .from-low (c .before .before .args .e) (c .before .before .pre .low), c .before .before .pre .ask .valid .to-low (c .before .before .args .e) (c .before .before .pre .low), c .before .before .pre .ask .size, c .before .before .pre .ask .apart, c .before .before .pre .ask .room)
+mul-if1 c =
+    let start = c .before .before in
+    omega (arith, start .pre .ask .valid .from-low (start .args .e) (start .pre .low), start .pre .ask .valid .to-low (start .args .e) (start .pre .low), start .pre .ask .size, start .pre .ask .apart, start .pre .ask .room)
 
 shared-slice-read-if1 : tie.Need-shared-slice-read-if1
-shared-slice-read-if1 c = omega (arith, c .before .before .before .pre .ask .valid .from-low (c .before .before .before .args .e) (c .before .before .before .pre .low), c .before .before .before .pre .ask .valid .to-low (c .before .before .before .args .e) (c .before .before .before .pre .low), c .before .before .before .pre .ask .size, c .before .before .before .pre .ask .apart, c .before .before .before .pre .ask .room)
+shared-slice-read-if1 c =
+    let start = c .before .before .before in
+    omega (arith, start .pre .ask .valid .from-low (start .args .e) (start .pre .low), start .pre .ask .valid .to-low (start .args .e) (start .pre .low), start .pre .ask .size, start .pre .ask .apart, start .pre .ask .room)
 
 mul-if1-2 : tie.Need-mul-if1-2
-mul-if1-2 c = omega (arith, c .before .before .before .pre .ask .valid .from-low (c .before .before .before .args .e) (c .before .before .before .pre .low), c .before .before .before .pre .ask .valid .to-low (c .before .before .before .args .e) (c .before .before .before .pre .low), c .before .before .before .pre .ask .size, c .before .before .before .pre .ask .apart, c .before .before .before .pre .ask .room)
+mul-if1-2 c =
+    let start = c .before .before .before in
+    omega (arith, start .pre .ask .valid .from-low (start .args .e) (start .pre .low), start .pre .ask .valid .to-low (start .args .e) (start .pre .low), start .pre .ask .size, start .pre .ask .apart, start .pre .ask .room)
 
 shared-slice-read-if1-2 : tie.Need-shared-slice-read-if1-2
-shared-slice-read-if1-2 c = omega (arith, c .before .before .before .before .pre .ask .valid .from-low (c .before .before .before .before .args .e) (c .before .before .before .before .pre .low), c .before .before .before .before .pre .ask .valid .to-low (c .before .before .before .before .args .e) (c .before .before .before .before .pre .low), c .before .before .before .before .pre .ask .size, c .before .before .before .before .pre .ask .apart, c .before .before .before .before .pre .ask .room)
+shared-slice-read-if1-2 c =
+    let start = c .before .before .before .before in
+    omega (arith, start .pre .ask .valid .from-low (start .args .e) (start .pre .low), start .pre .ask .valid .to-low (start .args .e) (start .pre .low), start .pre .ask .size, start .pre .ask .apart, start .pre .ask .room)
 
 returns : tie.Need-returns
 unfolding fits
 returns c = inr (rw (eq-eqb _ _ refl, ne-eqb _ _ (c .if1 .taken)), refl)
 
 add-x : tie.Need-add-x
-add-x c = omega (arith, c .before .before .before .before .before .pre .ask .valid .from-low (c .before .before .before .before .before .args .e) (c .before .before .before .before .before .pre .low), c .before .before .before .before .before .pre .ask .valid .to-low (c .before .before .before .before .before .args .e) (c .before .before .before .before .before .pre .low), c .before .before .before .before .before .pre .ask .size, c .before .before .before .before .before .pre .ask .apart, c .before .before .before .before .before .pre .ask .room)
+add-x c =
+    let start = c .before .before .before .before .before in
+    omega (arith, start .pre .ask .valid .from-low (start .args .e) (start .pre .low), start .pre .ask .valid .to-low (start .args .e) (start .pre .low), start .pre .ask .size, start .pre .ask .apart, start .pre .ask .room)
 
 mul-x : tie.Need-mul-x
-mul-x c = omega (arith, c .before .before .before .before .before .pre .ask .valid .from-low (c .before .before .before .before .before .args .e) (c .before .before .before .before .before .pre .low), c .before .before .before .before .before .pre .ask .valid .to-low (c .before .before .before .before .before .args .e) (c .before .before .before .before .before .pre .low), c .before .before .before .before .before .pre .ask .size, c .before .before .before .before .before .pre .ask .apart, c .before .before .before .before .before .pre .ask .room)
+mul-x c =
+    let start = c .before .before .before .before .before in
+    omega (arith, start .pre .ask .valid .from-low (start .args .e) (start .pre .low), start .pre .ask .valid .to-low (start .args .e) (start .pre .low), start .pre .ask .size, start .pre .ask .apart, start .pre .ask .room)
 
 slice-read-x : tie.Need-slice-read-x
-slice-read-x c = omega (arith, c .before .before .before .before .before .before .pre .ask .valid .from-low (c .before .before .before .before .before .before .args .e) (c .before .before .before .before .before .before .pre .low), c .before .before .before .before .before .before .pre .ask .valid .to-low (c .before .before .before .before .before .before .args .e) (c .before .before .before .before .before .before .pre .low), c .before .before .before .before .before .before .pre .ask .size, c .before .before .before .before .before .before .pre .ask .apart, c .before .before .before .before .before .before .pre .ask .room)
+slice-read-x c =
+    let start = c .before .before .before .before .before .before in
+    omega (arith, start .pre .ask .valid .from-low (start .args .e) (start .pre .low), start .pre .ask .valid .to-low (start .args .e) (start .pre .low), start .pre .ask .size, start .pre .ask .apart, start .pre .ask .room)
 
 cast-x : tie.Need-cast-x
-cast-x c = omega (arith, c .slice-known .given (c .before .before .before .before .before .before .args .d + getD (c .before .before .before .before .before .before .args .targets .now) (c .before .before .before .before .before .before .args .e) 0))
+cast-x c =
+    let start = c .before .before .before .before .before .before in
+    omega (arith, c .slice-known .given (start .args .d + getD (start .args .targets .now) (start .args .e) 0))
 
 add-y : tie.Need-add-y
-add-y c = omega (arith, c .before .before .before .before .before .before .pre .ask .valid .from-low (c .before .before .before .before .before .before .args .e) (c .before .before .before .before .before .before .pre .low), c .before .before .before .before .before .before .pre .ask .valid .to-low (c .before .before .before .before .before .before .args .e) (c .before .before .before .before .before .before .pre .low), c .before .before .before .before .before .before .pre .ask .size, c .before .before .before .before .before .before .pre .ask .apart, c .before .before .before .before .before .before .pre .ask .room)
+add-y c =
+    let start = c .before .before .before .before .before .before in
+    omega (arith, start .pre .ask .valid .from-low (start .args .e) (start .pre .low), start .pre .ask .valid .to-low (start .args .e) (start .pre .low), start .pre .ask .size, start .pre .ask .apart, start .pre .ask .room)
 
 mul-y : tie.Need-mul-y
-mul-y c = omega (arith, c .before .before .before .before .before .before .pre .ask .valid .from-low (c .before .before .before .before .before .before .args .e) (c .before .before .before .before .before .before .pre .low), c .before .before .before .before .before .before .pre .ask .valid .to-low (c .before .before .before .before .before .before .args .e) (c .before .before .before .before .before .before .pre .low), c .before .before .before .before .before .before .pre .ask .size, c .before .before .before .before .before .before .pre .ask .apart, c .before .before .before .before .before .before .pre .ask .room)
+mul-y c =
+    let start = c .before .before .before .before .before .before in
+    omega (arith, start .pre .ask .valid .from-low (start .args .e) (start .pre .low), start .pre .ask .valid .to-low (start .args .e) (start .pre .low), start .pre .ask .size, start .pre .ask .apart, start .pre .ask .room)
 
 slice-read-y : tie.Need-slice-read-y
-slice-read-y c = omega (arith, c .before .before .before .before .before .before .before .pre .ask .valid .from-low (c .before .before .before .before .before .before .before .args .e) (c .before .before .before .before .before .before .before .pre .low), c .before .before .before .before .before .before .before .pre .ask .valid .to-low (c .before .before .before .before .before .before .before .args .e) (c .before .before .before .before .before .before .before .pre .low), c .before .before .before .before .before .before .before .pre .ask .size, c .before .before .before .before .before .before .before .pre .ask .apart, c .before .before .before .before .before .before .before .pre .ask .room)
+slice-read-y c =
+    let start = c .before .before .before .before .before .before .before in
+    omega (arith, start .pre .ask .valid .from-low (start .args .e) (start .pre .low), start .pre .ask .valid .to-low (start .args .e) (start .pre .low), start .pre .ask .size, start .pre .ask .apart, start .pre .ask .room)
 
 cast-y : tie.Need-cast-y
-cast-y c = omega (arith, c .slice-known2 .given (c .before .before .before .before .before .before .before .args .d + getD (c .before .before .before .before .before .before .before .args .sources .now) (c .before .before .before .before .before .before .before .args .e) 0))
+cast-y c =
+    let start = c .before .before .before .before .before .before .before in
+    omega (arith, c .slice-known2 .given (start .args .d + getD (start .args .sources .now) (start .args .e) 0))
 
 add-if2 : tie.Need-add-if2
-add-if2 c = omega (arith, c .slice-known2 .given (c .before .before .before .before .before .before .before .args .d + getD (c .before .before .before .before .before .before .before .args .sources .now) (c .before .before .before .before .before .before .before .args .e) 0))
+add-if2 c =
+    let start = c .before .before .before .before .before .before .before in
+    omega (arith, c .slice-known2 .given (start .args .d + getD (start .args .sources .now) (start .args .e) 0))
 
 returns-2 : tie.Need-returns-2
 unfolding fits
-returns-2 c = inr (rw (eq-eqb _ _ refl, eq-eqb _ _ (c .before .before .before .if1 .left), ne-eqb _ _ (c .if2 .taken)), refl)
+returns-2 c =
+    let at-if1 = c .before .before .before in
+    inr (rw (eq-eqb _ _ refl, eq-eqb _ _ (at-if1 .if1 .left), ne-eqb _ _ (c .if2 .taken)), refl)
 
 cast-w : tie.Need-cast-w
-cast-w c = omega (arith, c .before .before .before .before .before .before .before .before .pre .low, c .before .before .before .before .before .before .before .before .pre .ask .few)
+cast-w c =
+    let start = c .before .before .before .before .before .before .before .before in
+    omega (arith, start .pre .low, start .pre .ask .few)
 
 add-w : tie.Need-add-w
-add-w c = omega (arith, c .before .before .before .before .before .before .before .before .pre .ask .valid .from-low (c .before .before .before .before .before .before .before .before .args .e) (c .before .before .before .before .before .before .before .before .pre .low), c .before .before .before .before .before .before .before .before .pre .ask .valid .to-low (c .before .before .before .before .before .before .before .before .args .e) (c .before .before .before .before .before .before .before .before .pre .low), c .before .before .before .before .before .before .before .before .pre .ask .size, c .before .before .before .before .before .before .before .before .pre .ask .apart, c .before .before .before .before .before .before .before .before .pre .ask .room)
+add-w c =
+    let start = c .before .before .before .before .before .before .before .before in
+    omega (arith, start .pre .ask .valid .from-low (start .args .e) (start .pre .low), start .pre .ask .valid .to-low (start .args .e) (start .pre .low), start .pre .ask .size, start .pre .ask .apart, start .pre .ask .room)
 
 mul-w : tie.Need-mul-w
-mul-w c = omega (arith, c .before .before .before .before .before .before .before .before .pre .ask .valid .from-low (c .before .before .before .before .before .before .before .before .args .e) (c .before .before .before .before .before .before .before .before .pre .low), c .before .before .before .before .before .before .before .before .pre .ask .valid .to-low (c .before .before .before .before .before .before .before .before .args .e) (c .before .before .before .before .before .before .before .before .pre .low), c .before .before .before .before .before .before .before .before .pre .ask .size, c .before .before .before .before .before .before .before .before .pre .ask .apart, c .before .before .before .before .before .before .before .before .pre .ask .room)
+mul-w c =
+    let start = c .before .before .before .before .before .before .before .before in
+    omega (arith, start .pre .ask .valid .from-low (start .args .e) (start .pre .low), start .pre .ask .valid .to-low (start .args .e) (start .pre .low), start .pre .ask .size, start .pre .ask .apart, start .pre .ask .room)
 
 slice-write-w : tie.Need-slice-write-w
-slice-write-w c = omega (arith, c .before .before .before .before .before .before .before .before .pre .ask .valid .from-low (c .before .before .before .before .before .before .before .before .args .e) (c .before .before .before .before .before .before .before .before .pre .low), c .before .before .before .before .before .before .before .before .pre .ask .valid .to-low (c .before .before .before .before .before .before .before .before .args .e) (c .before .before .before .before .before .before .before .before .pre .low), c .before .before .before .before .before .before .before .before .pre .ask .size, c .before .before .before .before .before .before .before .before .pre .ask .apart, c .before .before .before .before .before .before .before .before .pre .ask .room)
+slice-write-w c =
+    let start = c .before .before .before .before .before .before .before .before in
+    omega (arith, start .pre .ask .valid .from-low (start .args .e) (start .pre .low), start .pre .ask .valid .to-low (start .args .e) (start .pre .low), start .pre .ask .size, start .pre .ask .apart, start .pre .ask .room)
 
 same-length : tie.Need-same-length
 same-length c = search needs
 
 returns-3 : tie.Need-returns-3
 unfolding fits
-returns-3 c = inl (rw (eq-eqb _ _ refl, eq-eqb _ _ (c .before .before .before .if1 .left), eq-eqb _ _ (c .if2 .left)), refl)
+returns-3 c =
+    let at-if1 = c .before .before .before in
+    inl (rw (eq-eqb _ _ refl, eq-eqb _ _ (at-if1 .if1 .left), eq-eqb _ _ (c .if2 .left)), refl)
 
 pub offer-spec : {M : Type 1} → statement M
 offer-spec =

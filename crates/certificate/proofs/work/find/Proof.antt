@@ -5,34 +5,70 @@ use Rattle.certificate.proofs.work.find.Statement.{statement}
 use Rattle.certificate.proofs.work.find.Tie as tie
 
 both-requires : tie.Need-both-requires
-both-requires c κs = both-ask (c .before .before .before .before .before .pre)
+both-requires c κs =
+    let start = c .before .before .before .before .before in
+    both-ask (start .pre)
 
 distances-requires : tie.Need-distances-requires
-distances-requires c κs = there-ask (c .before .before .before .before .before .before .before .before .before .pre) _ (c .before .before .before .both .ensures)
+distances-requires c κs =
+    let at-both = c .before .before .before in
+    let start = at-both .before .before .before .before .before .before in
+    there-ask (start .pre) _ (at-both .both .ensures)
 
 same-length : tie.Need-same-length
-same-length c = find-stop (c .before .before .before .before .before .before .before .before .before .before .before .before .before .pre) _ (c .before .before .before .before .before .before .before .both .ensures) _ _ (c .before .before .before .distances .ensures) (c .if1 .taken) .beyond .long
+same-length c =
+    let at-distances = c .before .before .before in
+    let at-both = at-distances .before .before .before .before in
+    let start = at-both .before .before .before .before .before .before in
+    find-stop (start .pre) _ (at-both .both .ensures) _ _ (at-distances .distances .ensures) (c .if1 .taken) .beyond .long
 
 returns : tie.Need-returns
-returns c = find-stop (c .before .before .before .before .before .before .before .before .before .before .before .before .before .pre) _ (c .before .before .before .before .before .before .before .both .ensures) _ _ (c .before .before .before .distances .ensures) (c .if1 .taken)
+returns c =
+    let at-distances = c .before .before .before in
+    let at-both = at-distances .before .before .before .before in
+    let start = at-both .before .before .before .before .before .before in
+    find-stop (start .pre) _ (at-both .both .ensures) _ _ (at-distances .distances .ensures) (c .if1 .taken)
 
 add-distances : tie.Need-add-distances
-add-distances c = let s = (c .before .before .before .before .before .before .before .before .before .before .before .before .before .before) in omega (arith, s .pre .ask .small, s .pre .ask .few)
+add-distances c =
+    let start = c .before .before .before .before .before .before .before .before .before .before .before .before .before .before in
+    omega (arith, start .pre .ask .small, start .pre .ask .few)
 
 add-distances-2 : tie.Need-add-distances-2
-add-distances-2 c = let s = (c .before .before .before .before .before .before .before .before .before .before .before .before .before .before) in omega (arith, s .pre .ask .small, s .pre .ask .few)
+add-distances-2 c =
+    let start = c .before .before .before .before .before .before .before .before .before .before .before .before .before .before in
+    omega (arith, start .pre .ask .small, start .pre .ask .few)
 
 add-distances-3 : tie.Need-add-distances-3
-add-distances-3 c = let s = (c .before .before .before .before .before .before .before .before .before .before .before .before .before .before) in omega (arith, s .pre .ask .small, s .pre .ask .few, s .pre .place)
+add-distances-3 c =
+    let start = c .before .before .before .before .before .before .before .before .before .before .before .before .before .before in
+    omega (arith, start .pre .ask .small, start .pre .ask .few, start .pre .place)
 
 distances-requires-2 : tie.Need-distances-requires-2
-distances-requires-2 c κs = back-ask (c .before .before .before .before .before .before .before .before .before .before .before .before .before .before .pre) _ (c .before .before .before .before .before .before .before .before .both .ensures) _ _ (c .before .before .before .before .distances .ensures) (c .before .if1 .left)
+distances-requires-2 c κs =
+    let at-if1 = c .before in
+    let at-distances = at-if1 .before .before .before in
+    let at-both = at-distances .before .before .before .before in
+    let start = at-both .before .before .before .before .before .before in
+    back-ask (start .pre) _ (at-both .both .ensures) _ _ (at-distances .distances .ensures) (at-if1 .if1 .left)
 
 same-length-2 : tie.Need-same-length-2
-same-length-2 c = find-end (c .before .before .before .before .before .before .before .before .before .before .before .before .before .before .before .before .before .pre) _ (c .before .before .before .before .before .before .before .before .before .before .before .both .ensures) _ _ (c .before .before .before .before .before .before .before .distances .ensures) (c .before .before .before .before .if1 .left) _ _ (c .before .before .distances2 .ensures) .beyond .long
+same-length-2 c =
+    let at-distances2 = c .before .before in
+    let at-if1 = at-distances2 .before .before in
+    let at-distances = at-if1 .before .before .before in
+    let at-both = at-distances .before .before .before .before in
+    let start = at-both .before .before .before .before .before .before in
+    find-end (start .pre) _ (at-both .both .ensures) _ _ (at-distances .distances .ensures) (at-if1 .if1 .left) _ _ (at-distances2 .distances2 .ensures) .beyond .long
 
 returns-2 : tie.Need-returns-2
-returns-2 c = find-end (c .before .before .before .before .before .before .before .before .before .before .before .before .before .before .before .before .before .pre) _ (c .before .before .before .before .before .before .before .before .before .before .before .both .ensures) _ _ (c .before .before .before .before .before .before .before .distances .ensures) (c .before .before .before .before .if1 .left) _ _ (c .before .before .distances2 .ensures)
+returns-2 c =
+    let at-distances2 = c .before .before in
+    let at-if1 = at-distances2 .before .before in
+    let at-distances = at-if1 .before .before .before in
+    let at-both = at-distances .before .before .before .before in
+    let start = at-both .before .before .before .before .before .before in
+    find-end (start .pre) _ (at-both .both .ensures) _ _ (at-distances .distances .ensures) (at-if1 .if1 .left) _ _ (at-distances2 .distances2 .ensures)
 
 pub find-spec : {M : Type 1} → statement M
 find-spec =

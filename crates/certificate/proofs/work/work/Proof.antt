@@ -6,10 +6,15 @@ use Rattle.certificate.proofs.work.work.Statement.{statement}
 use Rattle.certificate.proofs.work.work.Tie as tie
 
 own-labels-requires : tie.Need-own-labels-requires
-own-labels-requires c κs = c .before .before .before .before .pre .size
+own-labels-requires c κs =
+    let start = c .before .before .before .before in
+    start .pre .size
 
 returns : tie.Need-returns
-returns c = work-none (c .before .before .before .before .before .before .pre) _ (c .before .own-labels .ensures) (c .if1 .taken)
+returns c =
+    let at-own-labels = c .before in
+    let start = at-own-labels .before .before .before .before .before in
+    work-none (start .pre) _ (at-own-labels .own-labels .ensures) (c .if1 .taken)
 
 add-b : tie.Need-add-b
 add-b c = search needs
@@ -21,22 +26,56 @@ mul-b : tie.Need-mul-b
 mul-b c = search needs
 
 find-requires : tie.Need-find-requires
-find-requires c κs = record { ask = c .before .before .before .before .before .before .before .pre; own = (owned (c .before .before .before .before .before .before .before .pre) _ (c .before .before .own-labels .ensures) (c .before .if1 .left)); place = refl }
+find-requires c κs =
+    let at-if1 = c .before in
+    let at-own-labels = at-if1 .before in
+    let start = at-own-labels .before .before .before .before .before in
+    record { ask = start .pre; own = (owned (start .pre) _ (at-own-labels .own-labels .ensures) (at-if1 .if1 .left)); place = refl }
 
 same-length : tie.Need-same-length
-same-length c = work-stop (c .before .before .before .before .before .before .before .before .before .before .before .pre) (owned (c .before .before .before .before .before .before .before .before .before .before .before .pre) _ (c .before .before .before .before .before .before .own-labels .ensures) (c .before .before .before .before .before .if1 .left)) _ _ (c .before .before .before .find .ensures) (c .if2 .taken) .beyond .long
+same-length c =
+    let at-find = c .before .before .before in
+    let at-if1 = at-find .before .before in
+    let at-own-labels = at-if1 .before in
+    let start = at-own-labels .before .before .before .before .before in
+    work-stop (start .pre) (owned (start .pre) _ (at-own-labels .own-labels .ensures) (at-if1 .if1 .left)) _ _ (at-find .find .ensures) (c .if2 .taken) .beyond .long
 
 returns-2 : tie.Need-returns-2
-returns-2 c = work-stop (c .before .before .before .before .before .before .before .before .before .before .before .pre) (owned (c .before .before .before .before .before .before .before .before .before .before .before .pre) _ (c .before .before .before .before .before .before .own-labels .ensures) (c .before .before .before .before .before .if1 .left)) _ _ (c .before .before .before .find .ensures) (c .if2 .taken)
+returns-2 c =
+    let at-find = c .before .before .before in
+    let at-if1 = at-find .before .before in
+    let at-own-labels = at-if1 .before in
+    let start = at-own-labels .before .before .before .before .before in
+    work-stop (start .pre) (owned (start .pre) _ (at-own-labels .own-labels .ensures) (at-if1 .if1 .left)) _ _ (at-find .find .ensures) (c .if2 .taken)
 
 complete-requires : tie.Need-complete-requires
-complete-requires c κs = complete-ask (c .before .before .before .before .before .before .before .before .before .before .before .before .pre) (owned (c .before .before .before .before .before .before .before .before .before .before .before .before .pre) _ (c .before .before .before .before .before .before .before .own-labels .ensures) (c .before .before .before .before .before .before .if1 .left)) _ _ (c .before .before .before .before .find .ensures) (c .before .if2 .left)
+complete-requires c κs =
+    let at-if2 = c .before in
+    let at-find = at-if2 .before .before .before in
+    let at-if1 = at-find .before .before in
+    let at-own-labels = at-if1 .before in
+    let start = at-own-labels .before .before .before .before .before in
+    complete-ask (start .pre) (owned (start .pre) _ (at-own-labels .own-labels .ensures) (at-if1 .if1 .left)) _ _ (at-find .find .ensures) (at-if2 .if2 .left)
 
 same-length-2 : tie.Need-same-length-2
-same-length-2 c = work-end (c .before .before .before .before .before .before .before .before .before .before .before .before .before .before .before .pre) (owned (c .before .before .before .before .before .before .before .before .before .before .before .before .before .before .before .pre) _ (c .before .before .before .before .before .before .before .before .before .before .own-labels .ensures) (c .before .before .before .before .before .before .before .before .before .if1 .left)) _ _ (c .before .before .before .before .before .before .before .find .ensures) (c .before .before .before .before .if2 .left) _ _ (c .before .before .complete .ensures) .beyond .long
+same-length-2 c =
+    let at-complete = c .before .before in
+    let at-if2 = at-complete .before .before in
+    let at-find = at-if2 .before .before .before in
+    let at-if1 = at-find .before .before in
+    let at-own-labels = at-if1 .before in
+    let start = at-own-labels .before .before .before .before .before in
+    work-end (start .pre) (owned (start .pre) _ (at-own-labels .own-labels .ensures) (at-if1 .if1 .left)) _ _ (at-find .find .ensures) (at-if2 .if2 .left) _ _ (at-complete .complete .ensures) .beyond .long
 
 returns-3 : tie.Need-returns-3
-returns-3 c = work-end (c .before .before .before .before .before .before .before .before .before .before .before .before .before .before .before .pre) (owned (c .before .before .before .before .before .before .before .before .before .before .before .before .before .before .before .pre) _ (c .before .before .before .before .before .before .before .before .before .before .own-labels .ensures) (c .before .before .before .before .before .before .before .before .before .if1 .left)) _ _ (c .before .before .before .before .before .before .before .find .ensures) (c .before .before .before .before .if2 .left) _ _ (c .before .before .complete .ensures)
+returns-3 c =
+    let at-complete = c .before .before in
+    let at-if2 = at-complete .before .before in
+    let at-find = at-if2 .before .before .before in
+    let at-if1 = at-find .before .before in
+    let at-own-labels = at-if1 .before in
+    let start = at-own-labels .before .before .before .before .before in
+    work-end (start .pre) (owned (start .pre) _ (at-own-labels .own-labels .ensures) (at-if1 .if1 .left)) _ _ (at-find .find .ensures) (at-if2 .if2 .left) _ _ (at-complete .complete .ensures)
 
 pub work-spec : {M : Type 1} → statement M
 work-spec =

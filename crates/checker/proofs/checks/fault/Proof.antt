@@ -16,43 +16,76 @@ labelled-requires c κs = search needs
 
 returns : tie.Need-returns
 unfolding fault check1 check2
-returns c = rw (sym (c .before .labelled .ensures) ∙ not-true _ (c .if1 .taken))
+returns c =
+    let at-labelled = c .before in
+    rw (sym (at-labelled .labelled .ensures) ∙ not-true _ (c .if1 .taken))
 
 ranked-requires : tie.Need-ranked-requires
-ranked-requires c κs = let s = (c .before .before .before .before .before .before .before .before .before .before) in record {
-  label-size = s .pre .ready .sized .label;
-  rank-size = s .pre .ready .sized .rank;
-  low = s .pre .low;
-  label-low = omega (arith, s .pre .low, label-at-most (labelAndRank (s .args .label .now) []) (s .args .v) (sym (c .before .labelled .ensures) ∙ not-false _ (c .if1 .left)));
-}
+ranked-requires c κs =
+    let at-labelled = c .before in
+    let start = at-labelled .before .before .before .before .before .before .before .before .before in
+    record {
+      label-size = start .pre .ready .sized .label;
+      rank-size = start .pre .ready .sized .rank;
+      low = start .pre .low;
+      label-low = omega (arith, start .pre .low, label-at-most (labelAndRank (start .args .label .now) []) (start .args .v) (sym (at-labelled .labelled .ensures) ∙ not-false _ (c .if1 .left)));
+    }
 
 returns-2 : tie.Need-returns-2
 unfolding fault check1 check2
-returns-2 c = rw (sym (c .before .before .before .labelled .ensures) ∙ not-false _ (c .before .before .if1 .left), sym (c .before .ranked .ensures) ∙ not-true _ (c .if2 .taken))
+returns-2 c =
+    let at-ranked = c .before in
+    let at-if1 = at-ranked .before in
+    let at-labelled = at-if1 .before in
+    rw (sym (at-labelled .labelled .ensures) ∙ not-false _ (at-if1 .if1 .left), sym (at-ranked .ranked .ensures) ∙ not-true _ (c .if2 .taken))
 
 entered-requires : tie.Need-entered-requires
 entered-requires c κs = search needs
 
 returns-3 : tie.Need-returns-3
 unfolding fault check1 check2
-returns-3 c = rw (sym (c .before .before .before .before .before .labelled .ensures) ∙ not-false _ (c .before .before .before .before .if1 .left), sym (c .before .before .before .ranked .ensures) ∙ not-false _ (c .before .before .if2 .left), sym (c .before .entered .ensures) ∙ not-true _ (c .if3 .taken))
+returns-3 c =
+    let at-entered = c .before in
+    let at-if2 = at-entered .before in
+    let at-ranked = at-if2 .before in
+    let at-if1 = at-ranked .before in
+    let at-labelled = at-if1 .before in
+    rw (sym (at-labelled .labelled .ensures) ∙ not-false _ (at-if1 .if1 .left), sym (at-ranked .ranked .ensures) ∙ not-false _ (at-if2 .if2 .left), sym (at-entered .entered .ensures) ∙ not-true _ (c .if3 .taken))
 
 entered-requires-2 : tie.Need-entered-requires-2
-entered-requires-2 c κs = let s = (c .before .before .before .before .before .before .before .before .before .before .before .before .before .before) in record {
-  valid = valid-rev (s .pre .ready .valid);
-  label-size = s .pre .ready .sized .label;
-  edge-size = s .pre .ready .sized .outEdge;
-  distance-size = s .pre .ready .sized .outDist;
-  low = s .pre .low;
-}
+entered-requires-2 c κs =
+    let start = c .before .before .before .before .before .before .before .before .before .before .before .before .before .before in
+    record {
+      valid = valid-rev (start .pre .ready .valid);
+      label-size = start .pre .ready .sized .label;
+      edge-size = start .pre .ready .sized .outEdge;
+      distance-size = start .pre .ready .sized .outDist;
+      low = start .pre .low;
+    }
 
 returns-4 : tie.Need-returns-4
 unfolding fault check1 check2
-returns-4 c = rw (sym (c .before .before .before .before .before .before .before .labelled .ensures) ∙ not-false _ (c .before .before .before .before .before .before .if1 .left), sym (c .before .before .before .before .before .ranked .ensures) ∙ not-false _ (c .before .before .before .before .if2 .left), sym (c .before .before .before .entered .ensures) ∙ not-false _ (c .before .before .if3 .left), sym (c .before .entered2 .ensures) ∙ not-true _ (c .if4 .taken))
+returns-4 c =
+    let at-entered2 = c .before in
+    let at-if3 = at-entered2 .before in
+    let at-entered = at-if3 .before in
+    let at-if2 = at-entered .before in
+    let at-ranked = at-if2 .before in
+    let at-if1 = at-ranked .before in
+    let at-labelled = at-if1 .before in
+    rw (sym (at-labelled .labelled .ensures) ∙ not-false _ (at-if1 .if1 .left), sym (at-ranked .ranked .ensures) ∙ not-false _ (at-if2 .if2 .left), sym (at-entered .entered .ensures) ∙ not-false _ (at-if3 .if3 .left), sym (at-entered2 .entered2 .ensures) ∙ not-true _ (c .if4 .taken))
 
 returns-5 : tie.Need-returns-5
 unfolding fault check1 check2
-returns-5 c = rw (sym (c .before .before .before .before .before .before .before .labelled .ensures) ∙ not-false _ (c .before .before .before .before .before .before .if1 .left), sym (c .before .before .before .before .before .ranked .ensures) ∙ not-false _ (c .before .before .before .before .if2 .left), sym (c .before .before .before .entered .ensures) ∙ not-false _ (c .before .before .if3 .left), sym (c .before .entered2 .ensures) ∙ not-false _ (c .if4 .left))
+returns-5 c =
+    let at-entered2 = c .before in
+    let at-if3 = at-entered2 .before in
+    let at-entered = at-if3 .before in
+    let at-if2 = at-entered .before in
+    let at-ranked = at-if2 .before in
+    let at-if1 = at-ranked .before in
+    let at-labelled = at-if1 .before in
+    rw (sym (at-labelled .labelled .ensures) ∙ not-false _ (at-if1 .if1 .left), sym (at-ranked .ranked .ensures) ∙ not-false _ (at-if2 .if2 .left), sym (at-entered .entered .ensures) ∙ not-false _ (at-if3 .if3 .left), sym (at-entered2 .entered2 .ensures) ∙ not-false _ (c .if4 .left))
 
 pub fault-spec : {M : Type 1} → statement M
 fault-spec =

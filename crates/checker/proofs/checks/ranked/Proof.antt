@@ -14,7 +14,9 @@ shared-slice-read-r : tie.Need-shared-slice-read-r
 shared-slice-read-r c = search needs
 
 cast-r : tie.Need-cast-r
-cast-r c = omega (arith, c .shared-slice-known .given (c .before .args .v))
+cast-r c =
+    let start = c .before in
+    omega (arith, c .shared-slice-known .given (start .args .v))
 
 returns : tie.Need-returns
 unfolding check2
@@ -27,7 +29,9 @@ shared-slice-read-l : tie.Need-shared-slice-read-l
 shared-slice-read-l c = search needs
 
 cast-l : tie.Need-cast-l
-cast-l c = omega (arith, c .shared-slice-known2 .given (c .before .before .before .args .v))
+cast-l c =
+    let start = c .before .before .before in
+    omega (arith, c .shared-slice-known2 .given (start .args .v))
 
 mul-own : tie.Need-mul-own
 mul-own c = search needs
@@ -36,11 +40,15 @@ shared-slice-read-own : tie.Need-shared-slice-read-own
 shared-slice-read-own c = search needs
 
 cast-own : tie.Need-cast-own
-cast-own c = omega (arith, c .shared-slice-known3 .given (getD (c .before .before .before .before .args .label .now) (c .before .before .before .before .args .v) 0))
+cast-own c =
+    let start = c .before .before .before .before in
+    omega (arith, c .shared-slice-known3 .given (getD (start .args .label .now) (start .args .v) 0))
 
 returns-2 : tie.Need-returns-2
 unfolding check2
-returns-2 c = rw (lt-ltb _ _ (c .before .before .if1 .left))
+returns-2 c =
+    let at-if1 = c .before .before in
+    rw (lt-ltb _ _ (at-if1 .if1 .left))
 
 pub ranked-spec : {M : Type 1} → statement M
 ranked-spec =

@@ -13,7 +13,9 @@ shared-slice-read-u : tie.Need-shared-slice-read-u
 shared-slice-read-u c = search needs
 
 cast-u : tie.Need-cast-u
-cast-u c = omega (arith, c .shared-slice-known .given (c .before .args .e))
+cast-u c =
+    let start = c .before in
+    omega (arith, c .shared-slice-known .given (start .args .e))
 
 mul-v : tie.Need-mul-v
 mul-v c = search needs
@@ -22,39 +24,59 @@ shared-slice-read-v : tie.Need-shared-slice-read-v
 shared-slice-read-v c = search needs
 
 cast-v : tie.Need-cast-v
-cast-v c = omega (arith, c .shared-slice-known2 .given (c .before .before .args .e))
+cast-v c =
+    let start = c .before .before in
+    omega (arith, c .shared-slice-known2 .given (start .args .e))
 
 mul-if1 : tie.Need-mul-if1
-mul-if1 c = omega (arith, c .before .before .pre .valid .from-low (c .before .before .args .e) (c .before .before .pre .low), c .before .before .pre .valid .to-low (c .before .before .args .e) (c .before .before .pre .low))
+mul-if1 c =
+    let start = c .before .before in
+    omega (arith, start .pre .valid .from-low (start .args .e) (start .pre .low), start .pre .valid .to-low (start .args .e) (start .pre .low))
 
 shared-slice-read-if1 : tie.Need-shared-slice-read-if1
-shared-slice-read-if1 c = omega (arith, c .before .before .before .pre .valid .from-low (c .before .before .before .args .e) (c .before .before .before .pre .low), c .before .before .before .pre .valid .to-low (c .before .before .before .args .e) (c .before .before .before .pre .low))
+shared-slice-read-if1 c =
+    let start = c .before .before .before in
+    omega (arith, start .pre .valid .from-low (start .args .e) (start .pre .low), start .pre .valid .to-low (start .args .e) (start .pre .low))
 
 mul-if1-2 : tie.Need-mul-if1-2
-mul-if1-2 c = omega (arith, c .before .before .before .pre .valid .from-low (c .before .before .before .args .e) (c .before .before .before .pre .low), c .before .before .before .pre .valid .to-low (c .before .before .before .args .e) (c .before .before .before .pre .low))
+mul-if1-2 c =
+    let start = c .before .before .before in
+    omega (arith, start .pre .valid .from-low (start .args .e) (start .pre .low), start .pre .valid .to-low (start .args .e) (start .pre .low))
 
 shared-slice-read-if1-2 : tie.Need-shared-slice-read-if1-2
-shared-slice-read-if1-2 c = omega (arith, c .before .before .before .before .pre .valid .from-low (c .before .before .before .before .args .e) (c .before .before .before .before .pre .low), c .before .before .before .before .pre .valid .to-low (c .before .before .before .before .args .e) (c .before .before .before .before .pre .low))
+shared-slice-read-if1-2 c =
+    let start = c .before .before .before .before in
+    omega (arith, start .pre .valid .from-low (start .args .e) (start .pre .low), start .pre .valid .to-low (start .args .e) (start .pre .low))
 
 returns : tie.Need-returns
 unfolding check5
 returns c = rw (eq-eqb _ _ (c .if1 .taken))
 
 mul-result : tie.Need-mul-result
-mul-result c = omega (arith, c .before .before .before .before .before .pre .valid .from-low (c .before .before .before .before .before .args .e) (c .before .before .before .before .before .pre .low), c .before .before .before .before .before .pre .valid .to-low (c .before .before .before .before .before .args .e) (c .before .before .before .before .before .pre .low))
+mul-result c =
+    let start = c .before .before .before .before .before in
+    omega (arith, start .pre .valid .from-low (start .args .e) (start .pre .low), start .pre .valid .to-low (start .args .e) (start .pre .low))
 
 shared-slice-read-result : tie.Need-shared-slice-read-result
-shared-slice-read-result c = omega (arith, c .before .before .before .before .before .before .pre .valid .from-low (c .before .before .before .before .before .before .args .e) (c .before .before .before .before .before .before .pre .low), c .before .before .before .before .before .before .pre .valid .to-low (c .before .before .before .before .before .before .args .e) (c .before .before .before .before .before .before .pre .low))
+shared-slice-read-result c =
+    let start = c .before .before .before .before .before .before in
+    omega (arith, start .pre .valid .from-low (start .args .e) (start .pre .low), start .pre .valid .to-low (start .args .e) (start .pre .low))
 
 mul-result-2 : tie.Need-mul-result-2
-mul-result-2 c = omega (arith, c .before .before .before .before .before .before .pre .valid .from-low (c .before .before .before .before .before .before .args .e) (c .before .before .before .before .before .before .pre .low), c .before .before .before .before .before .before .pre .valid .to-low (c .before .before .before .before .before .before .args .e) (c .before .before .before .before .before .before .pre .low))
+mul-result-2 c =
+    let start = c .before .before .before .before .before .before in
+    omega (arith, start .pre .valid .from-low (start .args .e) (start .pre .low), start .pre .valid .to-low (start .args .e) (start .pre .low))
 
 shared-slice-read-result-2 : tie.Need-shared-slice-read-result-2
-shared-slice-read-result-2 c = omega (arith, c .before .before .before .before .before .before .before .pre .valid .from-low (c .before .before .before .before .before .before .before .args .e) (c .before .before .before .before .before .before .before .pre .low), c .before .before .before .before .before .before .before .pre .valid .to-low (c .before .before .before .before .before .before .before .args .e) (c .before .before .before .before .before .before .before .pre .low))
+shared-slice-read-result-2 c =
+    let start = c .before .before .before .before .before .before .before in
+    omega (arith, start .pre .valid .from-low (start .args .e) (start .pre .low), start .pre .valid .to-low (start .args .e) (start .pre .low))
 
 returns-2 : tie.Need-returns-2
 unfolding check5
-returns-2 c = rw (ne-eqb _ _ (c .before .before .if1 .left))
+returns-2 c =
+    let at-if1 = c .before .before in
+    rw (ne-eqb _ _ (at-if1 .if1 .left))
 
 pub rises-spec : {M : Type 1} → statement M
 rises-spec =
