@@ -1,24 +1,27 @@
-// The checker on T's columns: as they are, with vertex 5 labelled 3, and with the ranks of 3 and 4 zero.
+// P4 and P5: the columns that the writer fills in for T's labels; the checker on them, and on two wrong ones.
 use crate::out;
 use crate::t;
-use checker::NO_EDGE;
 use checker::Verdict;
 
-fn check(name: &[u8], label: &[u32], rank: &[u32]) {
-    let in_edge = [NO_EDGE, 0, 1, NO_EDGE, 4, NO_EDGE];
-    let in_distance = [0, 1, 2, 0, 1, 0];
-    let out_edge = [NO_EDGE, 1, 2, NO_EDGE, 5, NO_EDGE];
-    let out_distance = [0, 2, 1, 0, 1, 0];
+fn check(
+    name: &[u8],
+    label: &[u32],
+    rank: &[u32],
+    in_edge: &[u32],
+    in_distance: &[u32],
+    out_edge: &[u32],
+    out_distance: &[u32],
+) {
     match checker::check(
         6,
         &t::sources(),
         &t::targets(),
         label,
         rank,
-        &in_edge,
-        &in_distance,
-        &out_edge,
-        &out_distance,
+        in_edge,
+        in_distance,
+        out_edge,
+        out_distance,
     ) {
         Verdict::Accepted => out::said(name, b"accepted"),
         Verdict::Failed { check, place } => out::pair(name, check as u64, place as u64),
@@ -26,16 +29,68 @@ fn check(name: &[u8], label: &[u32], rank: &[u32]) {
     }
 }
 
-pub fn run() {
-    check(b"columns of T", &t::labels(), &[0, 0, 0, 1, 1, 0]);
+fn verdicts(
+    rank: &[u32],
+    in_edge: &[u32],
+    in_distance: &[u32],
+    out_edge: &[u32],
+    out_distance: &[u32],
+) {
+    check(
+        b"columns of T",
+        &t::labels(),
+        rank,
+        in_edge,
+        in_distance,
+        out_edge,
+        out_distance,
+    );
+    let label = [0, 0, 0, 3, 3, 3];
     check(
         b"vertex 5 labelled 3, check and vertex",
-        &[0, 0, 0, 3, 3, 3],
-        &[0, 0, 0, 1, 1, 0],
+        &label,
+        rank,
+        in_edge,
+        in_distance,
+        out_edge,
+        out_distance,
     );
+    let flat = [0, 0, 0, 0, 0, 0];
     check(
         b"ranks of 3 and 4 zero, check and edge",
         &t::labels(),
-        &[0, 0, 0, 0, 0, 0],
+        &flat,
+        in_edge,
+        in_distance,
+        out_edge,
+        out_distance,
     );
+}
+
+pub fn run() {
+    let mut rank = [9u32; 6];
+    let mut in_edge = [9u32; 6];
+    let mut in_distance = [9u32; 6];
+    let mut out_edge = [9u32; 6];
+    let mut out_distance = [9u32; 6];
+    let mut numbers = [9u32; 102];
+    let mut words = [9u64; 6];
+    let k = certificate::write(
+        6,
+        &t::sources(),
+        &t::targets(),
+        &t::labels(),
+        &mut rank,
+        &mut in_edge,
+        &mut in_distance,
+        &mut out_edge,
+        &mut out_distance,
+        &mut numbers,
+        &mut words,
+    );
+    out::value(b"certificate of T", k as u64);
+    out::row(b"P4 ranks of T", &rank);
+    out::row(b"P5 in-distances of T", &in_distance);
+    out::row(b"P5 out-distances of T", &out_distance);
+    verdicts(&rank, &in_edge, &in_distance, &out_edge, &out_distance);
 }

@@ -10,9 +10,9 @@ mod walks;
 
 fn main() {
     tables::run();
+    columns::run();
     searches::run();
     walks::run();
-    summaries::run();
-    columns::run();
     draws::run();
+    summaries::run();
 }
