@@ -1,0 +1,11 @@
+pub mod Ring
+pub mod Waiting
+pub mod Aiming
+pub mod Driving
+pub mod Cutting
+pub mod Accepting
+pub mod Starting
+pub mod Ending
+pub mod Promising
+pub mod Unique
+pub mod Own

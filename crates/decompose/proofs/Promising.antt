@@ -1,0 +1,251 @@
+-- From the beginning through the turns to the end: the promise.
+use Prim.Native.Nat.{ℕ, _-_, _*_, _≤_, _<_}
+use native.Mathlib.Omega.{arith}
+use native.Mathlib.Decide.{decLt, ℕ-discrete}
+use native.Mathlib.Nat.{not-suc-le-zero}
+use mathlib.Core.Path.{_≡_, refl, sym, ap, subst, _∙_}
+use mathlib.Core.Logic.{_⊎_, inl, inr}
+use mathlib.Core.List.{List}
+use lib.ListN.{length, getD, replicate}
+use lib.Dec.{T, eqb, ltb, leb, eqb→eq, leb→le}
+use Rattle.graph.specs.Graph.{graph, Valid, IsLabel}
+use Rattle.graph.specs.Numbers.{many}
+use Rattle.graph.specs.Pivot.{draws}
+use Rattle.graph.specs.Search.{labels}
+use Rattle.graph.specs.Summary.{sharing, summary}
+use Rattle.graph.proofs.Certificate.{right-unique}
+use Rattle.graph.proofs.Counts.{many-le, many-mono, many-place}
+use Rattle.paint.specs.Colours.{col}
+use Rattle.parts.specs.State.{ring, rings}
+use Rattle.parts.specs.Chain.{own, head}
+use Rattle.parts.proofs.Rings.{is-ring}
+use Rattle.waiting.specs.declared.Part.{Part}
+use Rattle.waiting.specs.Records.{none}
+use Rattle.pivot.specs.declared.chooser.Chooser.{Chooser}
+use Rattle.decompose.specs.declared.machine.Machine.{Machine}
+use Rattle.decompose.specs.declared.finish.Answer.{Answer}
+use Rattle.decompose.specs.Aim.{aim, goes, aimed}
+use Rattle.decompose.specs.Machine.{base}
+use Rattle.decompose.specs.Waits.{firstOf}
+use Rattle.decompose.specs.Running.{Slicing, Running, Went}
+use Rattle.decompose.specs.Turns.{DriveAsk, Ran, idle, ran, Driven}
+use Rattle.decompose.specs.Begin.{Started, idleWith, firstOne, Begun, refused, nothing, begun}
+use Rattle.decompose.specs.Finish.{Room, FinishAsk, Ended, refusing, doing}
+use Rattle.decompose.specs.Plain.{still, PlainBegun, Plainly}
+use Rattle.decompose.specs.Promise.{refusalOf, call, after, Promise}
+use Rattle.decompose.proofs.Waiting.{waits-same}
+use Rattle.decompose.proofs.Aiming.{goes-clear, stopped}
+use Rattle.decompose.proofs.Accepting.{Accepted, accepted}
+use Rattle.decompose.proofs.Starting.{rings-begin}
+
+-- the machine before its first turn
+module _ {n : ℕ} {src tgt : List ℕ} {method order : ℕ} {c : Chooser} {list num wor num' wor' : List ℕ} {lab parts len len' : ℕ}
+    (a : Accepted n src tgt method order (c .kind) lab parts len len') (p : 0 < n) (st : Started n src tgt (c .kind) list num wor num' wor') (e : len ≡ length num) (ys : List Part) (l : n ≤ length ys) where
+  pub begun-running : Running n src tgt c ys num' wor' (aimed n (firstOne n method order))
+  unfolding goes aim
+  begun-running =
+      record {
+        small = a .small;
+        few = a .few;
+        records = l;
+        memory = omega (arith, a .numbers, st .long);
+        cleared = omega arith;
+        oldest = p;
+        pending = omega arith;
+        early = λ q. refl;
+        zeros = λ j h. absurd (not-suc-le-zero h);
+        flags = λ i h. absurd (not-suc-le-zero h);
+        whole = elim (ℕ-discrete method 0) as (λ _. (method ≡ 0) ⊎ Slicing n (base n src) ys num' (aimed n (firstOne n method order))) [
+          | yes q ↦ inl q
+          | no q ↦ inr (record { one = omega (arith, a .known-method); alone = refl; whole = st .whole; made = refl })
+        ];
+        waits = waits-same (st .waits) (firstOf n (base n src) ys num' (aimed n (firstOne n method order))) same;
+        blank = st .blank;
+        drawn = λ q. rings-begin n src tgt (base n src) num' (st .whole .colours);
+        still = λ q. refl;
+        most = omega arith;
+        going = refl;
+        reading = refl;
+      }
+    where
+      same : (i : ℕ) → i < 1 → firstOf n (base n src) ys num' (aimed n (firstOne n method order)) i ≡ head n (base n src) num' i
+      same i h = let x : i ≡ 0 = omega arith in rw x refl
+
+-- the drive may begin
+pub begun-drive : {n : ℕ} {src tgt : List ℕ} {method order : ℕ} {c : Chooser} {list : List ℕ} {lab : ℕ} {num wor num' wor' : List ℕ} {s : Machine} (ys : List Part)
+    → Begun n src tgt method order c list (length ys) lab num wor num' wor' s → DriveAsk n src tgt c ys num' wor' s
+begun-drive ys (refused h) = record { ready = λ g. absurd (not-suc-le-zero g) }
+begun-drive ys (nothing z e) = record { ready = λ g. absurd (not-suc-le-zero g) }
+begun-drive ys (begun z p st) = let a = accepted z in record { ready = λ g. begun-running a p st refl ys (a .waiting) }
+
+-- the lengths of lent memory stay, and so does the refusal
+pub record Lengths (num wor num' wor' : List ℕ) (s e : Machine) : Type 0 where
+  pub numbers : length num' ≡ length num
+  pub words : length wor' ≡ length wor
+  pub refusal : e .refusal ≡ s .refusal
+
+ran-lengths : {n : ℕ} {src tgt : List ℕ} {c c' : Chooser} {ys ys' : List Part} {num wor num' wor' : List ℕ} {s e : Machine} → Ran n src tgt c ys num wor s c' ys' num' wor' e → Lengths num wor num' wor' s e
+ran-lengths (idle z) = record { numbers = refl; words = refl; refusal = refl }
+ran-lengths (ran p r w) = record { numbers = w .numbers-long; words = w .words-long; refusal = w .refusal }
+
+-- what the beginning says of the end
+pub record Accepting (n m : ℕ) (lab num wor num₁ wor₁ : List ℕ) (s : Machine) : Type 0 where
+  pub room : s .refusal ≡ 0 → Room n m lab num₁ wor₁
+
+accepting : {n : ℕ} {src tgt : List ℕ} {method order : ℕ} {c : Chooser} {list lab : List ℕ} {parts : ℕ} {num wor num₁ wor₁ : List ℕ} {s : Machine}
+    → Begun n src tgt method order c list parts (length lab) num wor num₁ wor₁ s → Accepting n (length src) lab num wor num₁ wor₁ s
+accepting (refused h) = record { room = λ z. absurd (h z) }
+accepting (nothing q e) = let a = accepted q in record { room = λ z. record { small = a .small; few = a .few; label = a .label; numbers = a .numbers; words = a .words } }
+accepting (begun q p st) =
+    let a = accepted q in
+    record { room = λ z. record { small = a .small; few = a .few; label = a .label; numbers = omega (arith, a .numbers, st .long); words = omega (arith, a .words, st .words-long) } }
+
+ended-ask : {n m : ℕ} {lab num wor num₁ wor₁ num₂ wor₂ : List ℕ} {s e : Machine} → Accepting n m lab num wor num₁ wor₁ s → Lengths num₁ wor₁ num₂ wor₂ s e → FinishAsk n m lab num₂ wor₂ e
+ended-ask a x =
+    record { room = λ z. let r = a .room (sym (x .refusal) ∙ z) in record { small = r .small; few = r .few; label = r .label; numbers = omega (arith, r .numbers, x .numbers); words = omega (arith, r .words, x .words) } }
+
+pub driven-finish : {n : ℕ} {src tgt : List ℕ} {method order : ℕ} {c : Chooser} {list lab : List ℕ} {num wor num₁ wor₁ num₂ wor₂ : List ℕ} {s e : Machine} {c₁ c₂ : Chooser} {ys ys₁ : List Part}
+    → Begun n src tgt method order c list (length ys) (length lab) num wor num₁ wor₁ s → Driven n src tgt c₁ ys num₁ wor₁ s c₂ ys₁ num₂ wor₂ e → FinishAsk n (length src) lab num₂ wor₂ e
+driven-finish b d = ended-ask (accepting b) (ran-lengths (d .run))
+
+-- nothing waits: every colour is a label
+module _ {n : ℕ} {src tgt : List ℕ} {c : Chooser} {ys : List Part} {num wor : List ℕ} {e : Machine} (r : Running n src tgt c ys num wor e) (done : e .go ≡ 0) (valid : Valid (graph n src tgt)) where
+  stops : (n ≤ e .cleared) × (e .pending ≤ e .given) × (e .count ≡ 0)
+  stops = stopped n e (sym (r .going) ∙ done)
+
+  labelled-all : (v : ℕ) → v < n → col (base n src) num v < n
+  labelled-all v l = elim (decLt (col (base n src) num v) n) as (λ _. col (base n src) num v < n) [
+    | yes q ↦ q
+    | no q ↦
+        let (i, h, m) = r .waits .stage .placed .all v l in
+        let t : own n (base n src) num i ≡ col (base n src) num v = ap (col (base n src) num) m in
+        let (j, k, x) = r .waits .all i h (omega (arith, t)) in
+        absurd (omega (arith, k, stops .1, stops .2))
+  ]
+
+  ended-label : (v : ℕ) → v < n → IsLabel (graph n src tgt) v (col (base n src) num v)
+  ended-label v l = r .waits .stage .owned .right v l (labelled-all v l)
+
+  ended-none : (j : ℕ) → j < n → getD ys j none ≡ none
+  ended-none j h = r .zeros j (omega (arith, stops .0)) (λ i q. absurd (omega (arith, stops .2)))
+
+  ended-most : e .made ≤ 2 * n
+  ended-most = omega (arith, r .most, many-le (λ v. ltb (col (base n src) num v) n) n)
+
+  module _ (lab : List ℕ) (long : length lab ≡ n) (are : (v : ℕ) → v < n → getD lab v 0 ≡ col (base n src) num v) where
+    -- a label that two share is a ring
+    shared : (l : ℕ) → l < n → T (leb 2 (sharing lab l)) → T (ring n (col (base n src) num) l)
+    unfolding sharing
+    shared l h t =
+        let two : 2 ≤ many (λ v. eqb (getD lab v 0) l) (length lab) = leb→le 2 (sharing lab l) t in
+        let (u, lu, tu, eu) = many-place (λ v. eqb (getD lab v 0) l) (length lab) 0 (omega arith) in
+        let (v, lv, tv, ev) = many-place (λ v. eqb (getD lab v 0) l) (length lab) 1 (omega arith) in
+        elim (ℕ-discrete u l) as (λ _. T (ring n (col (base n src) num) l)) [
+          | yes q ↦ of v (omega arith) (tv) (λ x. differ u v eu ev (q ∙ sym x))
+          | no q ↦ of u (omega arith) tu q
+        ]
+      where
+        differ : (u v : ℕ) → many (λ v. eqb (getD lab v 0) l) u ≡ 0 → many (λ v. eqb (getD lab v 0) l) v ≡ 1 → u ≡ v → ⊥
+        differ u v a b q = let x = ap (many (λ v. eqb (getD lab v 0) l)) q in omega arith
+
+        of : (v : ℕ) → v < n → T (eqb (getD lab v 0) l) → (v ≡ l → ⊥) → T (ring n (col (base n src) num) l)
+        of v lv t d =
+            let e₁ : col (base n src) num v ≡ l = sym (are v lv) ∙ eqb→eq (getD lab v 0) l t in
+            let s = rw e₁ at (ended-label v lv .member) in
+            is-ring n (col (base n src) num) l v (sym (r .waits .stage .owned .whole v l lv s) ∙ e₁) lv d e₁
+
+    ended-rings : summary n lab .rings ≤ rings (graph n src tgt) (base n src) num
+    unfolding summary
+    ended-rings = many-mono (λ l. leb 2 (sharing lab l)) (ring n (col (base n src) num)) n shared
+
+-- refused
+refused-met : {n : ℕ} {src tgt : List ℕ} {method order : ℕ} {c : Chooser} {list lab : List ℕ} {num wor : List ℕ} {ys : List Part} {lab₃ num₃ wor₃ : List ℕ} {a : Answer} (k : ℕ)
+    → k ≡ refusalOf n src tgt method order (c .kind) (length lab) (length ys) (length num) (length wor) → (k ≡ 0 → ⊥)
+    → Ended n (length src) lab num wor (idleWith k) lab₃ num₃ wor₃ a → Promise (call n src tgt method order c list ys lab num wor) (after c ys lab₃ num₃ wor₃) a
+refused-met k e h (refusing x) = record { refusal = e; gives = record { refused = h; chooser = refl; waiting = refl; label = refl; numbers = refl; words = refl } }
+refused-met k e h (doing x cp zn zw) = absurd (h x)
+
+-- no vertex
+nothing-met : {n : ℕ} {src tgt : List ℕ} {method order : ℕ} {c : Chooser} {list lab : List ℕ} {num wor : List ℕ} {ys : List Part} {lab₃ num₃ wor₃ : List ℕ} {a : Answer}
+    → refusalOf n src tgt method order (c .kind) (length lab) (length ys) (length num) (length wor) ≡ 0 → n ≡ 0
+    → Ended n (length src) lab num wor (idleWith 0) lab₃ num₃ wor₃ a → Promise (call n src tgt method order c list ys lab num wor) (after c ys lab₃ num₃ wor₃) a
+unfolding draws summary
+nothing-met q e (refusing x) = absurd (x refl)
+nothing-met {n} {lab₃ = lab₃} q e (doing x cp zn zw) =
+    let k = accepted q in
+    record {
+      refusal = sym q;
+      gives = record {
+        label = right-unique (k .valid) lab₃ (cp .long ∙ k .label) (λ v l. absurd (omega arith));
+        never = λ z. refl;
+        least = λ z. omega (arith, many-le (λ l. leb 2 (sharing lab₃ l)) n);
+        most = omega arith;
+        state = refl;
+        kind = refl;
+        waiting = record { long = refl; front = λ j h. absurd (omega arith); rest = λ j h. refl };
+        numbers = zn;
+        words = zw;
+      };
+    }
+
+-- the machine ran
+ran-met : {n : ℕ} {src tgt : List ℕ} {method order : ℕ} {c : Chooser} {list lab : List ℕ} {num wor num₁ wor₁ num₂ wor₂ : List ℕ} {e : Machine} {c₂ : Chooser} {ys ys₂ : List Part} {lab₃ num₃ wor₃ : List ℕ} {a : Answer}
+    → refusalOf n src tgt method order (c .kind) (length lab) (length ys) (length num) (length wor) ≡ 0 → Started n src tgt (c .kind) list num wor num₁ wor₁
+    → Running n src tgt c₂ ys₂ num₂ wor₂ e → Went n (length src) c ys num₁ wor₁ (aimed n (firstOne n method order)) c₂ ys₂ num₂ wor₂ e → e .go ≡ 0
+    → Ended n (length src) lab num₂ wor₂ e lab₃ num₃ wor₃ a → Promise (call n src tgt method order c list ys lab num wor) (after c₂ ys₂ lab₃ num₃ wor₃) a
+ran-met q st r w d (refusing x) = absurd (x (w .refusal))
+ran-met {n} {src} {c = c} {e = e} {lab₃ = lab₃} q st r w d (doing x cp zn zw) =
+    let k = accepted q in
+    let all-draws : e .made - 0 ≡ e .made = omega arith in
+    record {
+      refusal = sym q;
+      gives = record {
+        label = right-unique (k .valid) lab₃ (cp .long ∙ k .label) (λ v l. rw (cp .labels v l) (ended-label r d (k .valid) v l));
+        never = λ z. r .still (λ y. z (sym (w .kind) ∙ y));
+        least = λ z. omega (arith, r .drawn (w .kind ∙ z), ended-rings r d (k .valid) lab₃ (cp .long ∙ k .label) (cp .labels));
+        most = ended-most r d (k .valid);
+        state = w .state ∙ ap (λ (i : ℕ). draws i (c .state)) all-draws;
+        kind = w .kind;
+        waiting = record { long = w .long; front = ended-none r d (k .valid); rest = w .list };
+        numbers = record { long = zn .long ∙ w .numbers-long ∙ st .long; front = zn .front; rest = λ j h. zn .rest j h ∙ w .numbers j h ∙ st .beyond j h };
+        words = record { long = zw .long ∙ w .words-long ∙ st .words-long; front = zw .front; rest = λ j h. zw .rest j h ∙ w .words j h ∙ st .words j h };
+      };
+    }
+
+met : {n : ℕ} {src tgt : List ℕ} {method order : ℕ} {c : Chooser} {list lab : List ℕ} {num wor num₁ wor₁ num₂ wor₂ : List ℕ} {s e : Machine} {c₂ : Chooser} {ys ys₂ : List Part} {lab₃ num₃ wor₃ : List ℕ} {a : Answer}
+    → Begun n src tgt method order c list (length ys) (length lab) num wor num₁ wor₁ s → Ran n src tgt c ys num₁ wor₁ s c₂ ys₂ num₂ wor₂ e → e .go ≡ 0
+    → Ended n (length src) lab num₂ wor₂ e lab₃ num₃ wor₃ a → Promise (call n src tgt method order c list ys lab num wor) (after c₂ ys₂ lab₃ num₃ wor₃) a
+met {n} {src} {tgt} {method} {order} {c} {lab = lab} {num = num} {wor = wor} {ys = ys} (refused h) (idle z) d f = refused-met (refusalOf n src tgt method order (c .kind) (length lab) (length ys) (length num) (length wor)) refl h f
+met (refused h) (ran p r w) d f = absurd (not-suc-le-zero p)
+met (nothing q e) (idle z) d f = nothing-met q e f
+met (nothing q e) (ran p r w) d f = absurd (not-suc-le-zero p)
+met {n} {method = method} {order = order} (begun q p st) (idle z) d f = absurd (omega (arith, goes-clear n (firstOne n method order) p))
+met (begun q p st) (ran x r w) d f = ran-met q st r w d f
+
+-- the calls of the decomposer, one after the other
+pub promised : {n : ℕ} {src tgt : List ℕ} {method order : ℕ} {c x c₁ c₂ : Chooser} {list lab : List ℕ} {num wor num₁ wor₁ num₂ wor₂ : List ℕ} {s e : Machine} {ys ys₂ : List Part} {lab₃ num₃ wor₃ : List ℕ} {a : Answer}
+    → (x ≡ c) × (c₁ ≡ c) → Begun n src tgt method order x list (length ys) (length lab) num wor num₁ wor₁ s → Driven n src tgt c₁ ys num₁ wor₁ s c₂ ys₂ num₂ wor₂ e
+    → Ended n (length src) lab num₂ wor₂ e lab₃ num₃ wor₃ a → Promise (call n src tgt method order c list ys lab num wor) (after c₂ ys₂ lab₃ num₃ wor₃) a
+promised {n} {src} {tgt} {method} {order} {c} {x} {c₁} {c₂} {list} {lab} {num} {wor} {num₁} {wor₁} {num₂} {wor₂} {s} {e} {ys} {ys₂} q b d f =
+    met (subst (λ (y : Chooser). Begun n src tgt method order y list (length ys) (length lab) num wor num₁ wor₁ s) (q .0) b)
+    (subst (λ (y : Chooser). Ran n src tgt y ys num₁ wor₁ s c₂ ys₂ num₂ wor₂ e) (q .1) (d .run)) (d .done) f
+
+-- the same for a list and a chooser of one's own
+pub plain-drive : {n : ℕ} {src tgt : List ℕ} {lab : ℕ} {num wor num' wor' : List ℕ} {s : Machine}
+    → PlainBegun n src tgt lab num wor num' wor' s → DriveAsk n src tgt still (replicate 512 none) num' wor' s
+plain-drive b = begun-drive (replicate 512 none) b
+
+pub plain-finish : {n : ℕ} {src tgt lab : List ℕ} {num wor num₁ wor₁ num₂ wor₂ : List ℕ} {s e : Machine} {c₂ : Chooser} {ys ys₁ : List Part}
+    → PlainBegun n src tgt (length lab) num wor num₁ wor₁ s → Driven n src tgt still ys num₁ wor₁ s c₂ ys₁ num₂ wor₂ e → FinishAsk n (length src) lab num₂ wor₂ e
+plain-finish {n} {src} {tgt} {lab} {num} {wor} {num₁} {wor₁} {num₂} {wor₂} {s} {e} {c₂} {ys} {ys₁} b d =
+    ended-ask (accepting b) (ran-lengths (d .run))
+
+pub plainly : {n : ℕ} {src tgt lab : List ℕ} {num wor num₁ wor₁ num₂ wor₂ : List ℕ} {s e : Machine} {c₂ : Chooser} {ys ys₂ : List Part} {lab₃ num₃ wor₃ : List ℕ} {a : Answer}
+    → ys ≡ replicate 512 none → PlainBegun n src tgt (length lab) num wor num₁ wor₁ s → Driven n src tgt still ys num₁ wor₁ s c₂ ys₂ num₂ wor₂ e
+    → Ended n (length src) lab num₂ wor₂ e lab₃ num₃ wor₃ a → Plainly n src tgt lab num wor lab₃ num₃ wor₃ a
+plainly {n} {src} {tgt} {lab} {num} {wor} {num₁} {wor₁} {num₂} {wor₂} {s} {e} {c₂} {ys} {ys₂} q b d f =
+    record {
+      chooser = c₂;
+      waiting = ys₂;
+      promise = promised {c = still} {x = still} {c₁ = still} {ys = replicate 512 none} (refl, refl) b (subst (λ (l : List Part). Driven n src tgt still l num₁ wor₁ s c₂ ys₂ num₂ wor₂ e) q d) f;
+    }

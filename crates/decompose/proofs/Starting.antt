@@ -1,0 +1,173 @@
+-- The beginning: one part, the whole, whose chain is the order.
+use Prim.Native.Nat.{ℕ, zero, suc, _+_, _-_, _*_, _/_, _%_, _≤_, _<_}
+use native.Mathlib.Omega.{arith}
+use native.Mathlib.Decide.{ℕ-discrete}
+use native.Mathlib.Nat.{not-suc-le-zero}
+use mathlib.Core.Path.{_≡_, refl, sym, ap, _∙_}
+use mathlib.Core.Bool.{Bool, false}
+use mathlib.Core.List.{List}
+use lib.ListN.{length, getD, set, length-set}
+use lib.Seq.{getD-set-same, getD-set-other}
+use lib.Dec.{lit<}
+use Rattle.graph.specs.Graph.{graph}
+use Rattle.graph.specs.Limits.{wordsNeeded, numbersNeeded}
+use Rattle.graph.specs.Memory.{Zeroed}
+use Rattle.graph.specs.Numbers.{least, many}
+use Rattle.graph.specs.Sets.{bit}
+use Rattle.graph.proofs.Chains.{same-low}
+use Rattle.graph.proofs.Counts.{many-mono}
+use Rattle.sets.proofs.Digits.{small-at}
+use Rattle.index.specs.Build.{Both}
+use Rattle.index.proofs.Moved.{indexed-kept}
+use Rattle.paint.specs.Colours.{col}
+use Rattle.pivot.specs.Order.{Arranged, Ordered, order}
+use Rattle.parts.specs.State.{ord, ring, rings, Tables, Stage}
+use Rattle.parts.specs.Chain.{own, nxt, lst, head}
+use Rattle.parts.specs.Divide.{Blank}
+use Rattle.parts.proofs.Choice.{arranged-placed}
+use Rattle.parts.proofs.Rings.{ring-is}
+use Rattle.decompose.specs.Begin.{Put, StartAsk, Started, listOf}
+use Rattle.decompose.specs.Machine.{base}
+
+pub put-none : (x : ℕ) (f : ℕ → ℕ) (w : List ℕ) → Put x 0 f w w
+put-none x f w = record { here = λ j h. absurd (not-suc-le-zero h); low = λ j h. refl; high = λ j h. refl; long = refl }
+
+pub put-step : {x i : ℕ} {f : ℕ → ℕ} {w₀ w : List ℕ} (y : ℕ) → y ≡ f i → x + i < length w₀ → Put x i f w₀ w → Put x (i + 1) f w₀ (set w (x + i) y)
+put-step {x} {i} {f} {w₀} {w} y e l z =
+    record {
+      here = λ j h. elim (ℕ-discrete j i) as (λ _. getD (set w (x + i) y) (x + j) 0 ≡ f j) [
+        | yes q ↦ rw q (getD-set-same w (x + i) y 0 (omega (arith, z .long)) ∙ e)
+        | no q ↦ getD-set-other w (x + i) (x + j) y 0 (λ r. q (omega arith)) ∙ z .here j (omega arith)
+      ];
+      low = λ j h. getD-set-other w (x + i) j y 0 (λ r. omega arith) ∙ z .low j h;
+      high = λ j h. getD-set-other w (x + i) j y 0 (λ r. omega arith) ∙ z .high j (omega arith);
+      long = length-set w (x + i) y ∙ z .long;
+    }
+
+least-same : (n : ℕ) (f h : ℕ → Bool) → ((i : ℕ) → f i ≡ h i) → least n f ≡ least n h
+unfolding least
+least-same zero f h e = refl
+least-same (suc n) f h e = rw (e zero, least-same n (λ i. f (suc i)) (λ i. h (suc i)) (λ i. e (suc i)))
+
+arranged-same : {n : ℕ} {list : List ℕ} {f h : ℕ → ℕ} → ((i : ℕ) → h i ≡ f i) → Arranged n list f → Arranged n list h
+arranged-same {n} {list} {f} {h} e a =
+    record {
+      low = λ i l. omega (arith, e i, a .low i l);
+      one = λ i j l m q. a .one i j l m (sym (e i) ∙ q ∙ e j);
+      all = λ v l. let (i, q, m) = a .all v l in (i, q, e i ∙ m);
+      exact = λ p v l t. e (least n (λ i. p (h i))) ∙ ap f (least-same n (λ i. p (h i)) (λ i. p (f i)) (λ i. ap p (e i))) ∙ a .exact p v l t;
+    }
+
+none-pass : (n : ℕ) → many (λ v. false) n ≡ 0
+unfolding many
+none-pass zero = refl
+none-pass (suc n) = omega (arith, none-pass n)
+
+-- words of zeros are a set with no vertex
+pub blank-zeroed : {n : ℕ} {ws ws' : List ℕ} → wordsNeeded n ≤ length ws → Zeroed (wordsNeeded n) ws ws' → Blank n ws'
+unfolding bit
+blank-zeroed {n} {ws} {ws'} l z =
+    record {
+      words = omega (arith, z .long);
+      none = λ v h. rw (z .front (v / 64) (omega arith)) (small-at 0 0 (v % 64) (lit< tt) (omega arith));
+    }
+
+module _ (n : ℕ) (src tgt L : List ℕ) {w w₁ w₂ w₃ w₄ w₅ w₆ ws ws' : List ℕ} (ask : StartAsk n src tgt w ws)
+    (both : Both src tgt n w w₁) (placed : Ordered n L (base n src) w₁ w₂)
+    (p : Put (base n src) n (λ j. n) w₂ w₃) (q : Put (base n src + 2 * n) n (λ j. j + 1) w₃ w₄) (r : Put (base n src + 3 * n) (3 * n + 2) (λ j. n) w₄ w₅) (s : Put (base n src + 8 * n + 2) 1 (λ j. 0) w₅ w₆)
+    (z : Zeroed (wordsNeeded n) ws ws') where
+  abbrev b : ℕ
+  b = base n src
+
+  some : 0 < n
+  some = ask .some
+
+  colour : (v : ℕ) → v < n → col b w₆ v ≡ n
+  colour v l = s .low (b + v) (omega arith) ∙ r .low (b + v) (omega arith) ∙ q .low (b + v) (omega arith) ∙ p .here v l
+
+  low : (j : ℕ) → j < b → getD w₆ j 0 ≡ getD w₁ j 0
+  low j h = s .low j (omega arith) ∙ r .low j (omega arith) ∙ q .low j (omega arith) ∙ p .low j h ∙ placed .beside .low j h
+
+  long : length w₆ ≡ length w
+  long = s .long ∙ r .long ∙ q .long ∙ p .long ∙ placed .beside .long ∙ both .long
+
+  ordered : (i : ℕ) → ord n b w₆ i ≡ order b n w₂ i
+  ordered i = s .high (b + 9 * n + 2 + i) (omega (arith, some)) ∙ r .high (b + 9 * n + 2 + i) (omega arith) ∙ q .high (b + 9 * n + 2 + i) (omega arith) ∙ p .high (b + 9 * n + 2 + i) (omega arith)
+
+  arranged : Arranged n L (ord n b w₆)
+  arranged = arranged-same ordered (placed .order)
+
+  beyond : (j : ℕ) → numbersNeeded n (length src) ≤ j → getD w₆ j 0 ≡ getD w j 0
+  beyond j h =
+      s .high j (omega arith) ∙ r .high j (omega arith) ∙ q .high j (omega arith) ∙ p .high j (omega arith)
+      ∙ placed .beside .high j (omega arith) ∙ both .rest j (omega arith)
+
+  -- every place has the one colour
+  place : (i : ℕ) → i < n → own n b w₆ i ≡ n
+  place i l = colour (ord n b w₆ i) (arranged .low i l)
+
+  follow : (i : ℕ) → i < n → nxt n b w₆ i ≡ i + 1
+  follow i l = s .low (b + 2 * n + i) (omega arith) ∙ r .low (b + 2 * n + i) (omega arith) ∙ q .here i l
+
+  last : (c : ℕ) → n ≤ c → c < 4 * n + 2 → lst n b w₆ c ≡ n
+  last c l h =
+      let e : b + 2 * n + c ≡ b + 3 * n + (c - n) = omega arith in
+      s .low (b + 2 * n + c) (omega arith) ∙ ap (λ (j : ℕ). getD w₅ j 0) e ∙ r .here (c - n) (omega arith)
+
+  zeroth : head n b w₆ 0 ≡ 0
+  zeroth = s .here 0 (omega arith)
+
+  tables : Tables (graph n src tgt) b w₆
+  tables =
+      record {
+        valid = ask .valid;
+        few = ask .few;
+        small = ask .small;
+        below = omega arith;
+        fwd = indexed-kept src n 0 w₁ w₆ (ask .valid .from-low) (λ j h k. low j (omega arith)) (both .forward);
+        bwd = indexed-kept tgt n (n + 1 + length src) w₁ w₆ (λ e h. ask .valid .to-low e (omega (arith, ask .valid .same))) (λ j h k. low j (omega (arith, ask .valid .same))) (both .reverse);
+      }
+
+  stage : Stage (graph n src tgt) b (n + 1) w₆
+  stage =
+      record {
+        tables = tables;
+        placed = arranged-placed arranged;
+        owned = record {
+          whole = λ u v h e. colour u h ∙ sym (colour v (same-low (ask .valid) e h));
+          right = λ v h e. absurd (omega (arith, colour v h));
+          below = λ v h. omega (arith, colour v h);
+        };
+        room = omega arith;
+        long = omega (arith, ask .memory, long);
+      }
+
+  pub started : (kind : ℕ) (list : List ℕ) → L ≡ listOf kind list → Started n src tgt kind list w ws w₆ ws'
+  started kind list e =
+      record {
+        waits = record {
+          stage = stage;
+          next = λ i l h. rw (follow i l) (record {
+            more = omega arith;
+            most = omega arith;
+            same = λ d. place (i + 1) d ∙ sym (place i l);
+            none = λ u c d f. omega arith;
+          });
+          none = λ c l h. omega (arith, last c (omega arith) h);
+          first = λ i l. let x : i ≡ 0 = omega arith in rw (x, zeroth) (record { low = some; part = omega (arith, place 0 some); none = λ u d f. absurd (not-suc-le-zero d) });
+          all = λ u l h. (0, omega arith, ap (own n b w₆) zeroth ∙ place 0 some ∙ sym (place u l));
+          one = λ i j l m x. omega arith;
+        };
+        whole = record { zero = zeroth; colours = colour; first = refl };
+        order = rw (sym e) arranged;
+        blank = blank-zeroed (ask .words) z;
+        long = long;
+        beyond = beyond;
+        words-long = z .long;
+        words = z .rest;
+      }
+
+-- at the beginning no component has its label
+pub rings-begin : (n : ℕ) (src tgt : List ℕ) (b : ℕ) (w : List ℕ) → ((v : ℕ) → v < n → col b w v ≡ n) → rings (graph n src tgt) b w ≤ 0
+rings-begin n src tgt b w h =
+    omega (arith, many-mono (ring n (col b w)) (λ v. false) n (λ i l t. absurd (omega (arith, ring-is n (col b w) i t .0, h i l))), none-pass n)

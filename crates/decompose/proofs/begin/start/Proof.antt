@@ -1,0 +1,122 @@
+use mathlib.Core.Path.{refl}
+use native.Mathlib.Omega.{arith}
+use borrow.Author.Needs.{needs}
+use Rattle.decompose.specs.Begin.{listOf}
+use Rattle.decompose.proofs.Starting.{started}
+use Rattle.decompose.proofs.begin.start.Statement.{statement}
+use Rattle.decompose.proofs.begin.start.Tie as tie
+
+add-b : tie.Need-add-b
+add-b c = search needs
+
+add-b-2 : tie.Need-add-b-2
+add-b-2 c = search needs
+
+mul-b : tie.Need-mul-b
+mul-b c = search needs
+
+both-requires : tie.Need-both-requires
+both-requires c κs = let a = c .before .before .before .before .before .before .pre in
+    record {
+      forward = record { below = a .valid .from-low; small = omega (arith, a .small); few = omega (arith, a .few) };
+      reverse = record { below = λ e h. a .valid .to-low e (omega (arith, a .valid .same)); small = omega (arith, a .small); few = omega (arith, a .few, a .valid .same) };
+      even = a .valid .same;
+      room = omega (arith, a .memory);
+    }
+
+arrange-requires : tie.Need-arrange-requires
+arrange-requires c κs = search needs
+
+cast-fill : tie.Need-cast-fill
+cast-fill c = search needs
+
+fill-requires : tie.Need-fill-requires
+fill-requires c κs = search needs
+
+mul-number : tie.Need-mul-number
+mul-number c = search needs
+
+add-number : tie.Need-add-number
+add-number c = search needs
+
+number-requires : tie.Need-number-requires
+number-requires c κs = search needs
+
+mul-fill : tie.Need-mul-fill
+mul-fill c = search needs
+
+add-fill : tie.Need-add-fill
+add-fill c = search needs
+
+mul-fill-2 : tie.Need-mul-fill-2
+mul-fill-2 c = search needs
+
+add-fill-2 : tie.Need-add-fill-2
+add-fill-2 c = search needs
+
+cast-fill-2 : tie.Need-cast-fill-2
+cast-fill-2 c = search needs
+
+fill-requires-2 : tie.Need-fill-requires-2
+fill-requires-2 c κs = search needs
+
+mul-fill-3 : tie.Need-mul-fill-3
+mul-fill-3 c = search needs
+
+add-fill-3 : tie.Need-add-fill-3
+add-fill-3 c = search needs
+
+add-fill-4 : tie.Need-add-fill-4
+add-fill-4 c = search needs
+
+fill-requires-3 : tie.Need-fill-requires-3
+fill-requires-3 c κs = search needs
+
+add-zero-words : tie.Need-add-zero-words
+add-zero-words c = omega (arith, c .before .before .before .before .before .before .before .before .before .before .before .before .before .before .before .before .before .before .before .before .before .before .before .before .before .before .before .before .before .before .pre .small)
+
+mul-zero-words : tie.Need-mul-zero-words
+mul-zero-words c = omega (arith, c .before .before .before .before .before .before .before .before .before .before .before .before .before .before .before .before .before .before .before .before .before .before .before .before .before .before .before .before .before .before .pre .small)
+
+zero-words-requires : tie.Need-zero-words-requires
+zero-words-requires c κs = c .before .before .before .before .before .before .before .before .before .before .before .before .before .before .before .before .before .before .before .before .before .before .before .before .before .before .before .before .before .before .pre .words
+
+same-length : tie.Need-same-length
+same-length c = search needs
+
+same-length-2 : tie.Need-same-length-2
+same-length-2 c = search needs
+
+returns : tie.Need-returns
+returns c = started (c .before .before .before .before .before .before .before .before .before .before .before .before .before .before .before .before .before .before .before .before .before .before .before .before .before .before .before .before .before .before .before .before .before .args .n) (c .before .before .before .before .before .before .before .before .before .before .before .before .before .before .before .before .before .before .before .before .before .before .before .before .before .before .before .before .before .before .before .before .before .args .sources .now) (c .before .before .before .before .before .before .before .before .before .before .before .before .before .before .before .before .before .before .before .before .before .before .before .before .before .before .before .before .before .before .before .before .before .args .targets .now) (listOf (c .before .before .before .before .before .before .before .before .before .before .before .before .before .before .before .before .before .before .before .before .before .before .before .before .before .before .before .before .before .before .before .before .before .args .kind) (c .before .before .before .before .before .before .before .before .before .before .before .before .before .before .before .before .before .before .before .before .before .before .before .before .before .before .before .before .before .before .before .before .before .args .list .now)) (c .before .before .before .before .before .before .before .before .before .before .before .before .before .before .before .before .before .before .before .before .before .before .before .before .before .before .before .before .before .before .before .before .before .pre) (c .before .before .before .before .before .before .before .before .before .before .before .before .before .before .before .before .before .before .before .before .before .before .before .before .before .before .both .ensures) (c .before .before .before .before .before .before .before .before .before .before .before .before .before .before .before .before .before .before .before .before .before .before .arrange .ensures) (c .before .before .before .before .before .before .before .before .before .before .before .before .before .before .before .before .before .before .fill .ensures) (c .before .before .before .before .before .before .before .before .before .before .before .before .before .before .number .ensures) (c .before .before .before .before .before .before .before .before .before .before .fill2 .ensures) (c .before .before .before .before .before .before .fill3 .ensures) (c .before .before .zero-words .ensures) (c .before .before .before .before .before .before .before .before .before .before .before .before .before .before .before .before .before .before .before .before .before .before .before .before .before .before .before .before .before .before .before .before .before .args .kind) (c .before .before .before .before .before .before .before .before .before .before .before .before .before .before .before .before .before .before .before .before .before .before .before .before .before .before .before .before .before .before .before .before .before .args .list .now) refl
+
+pub start-spec : {M : Type 1} → statement M
+start-spec =
+    tie.close
+    (tie.spec
+    add-b
+    add-b-2
+    mul-b
+    both-requires
+    arrange-requires
+    cast-fill
+    fill-requires
+    mul-number
+    add-number
+    number-requires
+    mul-fill
+    add-fill
+    mul-fill-2
+    add-fill-2
+    cast-fill-2
+    fill-requires-2
+    mul-fill-3
+    add-fill-3
+    add-fill-4
+    fill-requires-3
+    add-zero-words
+    mul-zero-words
+    zero-words-requires
+    same-length
+    same-length-2
+    returns)

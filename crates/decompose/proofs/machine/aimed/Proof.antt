@@ -1,0 +1,16 @@
+use borrow.Author.Needs.{needs}
+use Rattle.decompose.specs.Aim.{aim, goes}
+use Rattle.decompose.proofs.machine.aimed.Statement.{statement}
+use Rattle.decompose.proofs.machine.aimed.Tie as tie
+
+goes-requires : tie.Need-goes-requires
+goes-requires c κs = search needs
+
+aim-requires : tie.Need-aim-requires
+aim-requires c κs = search needs
+
+returns : tie.Need-returns
+returns c = rw (← c .before .goes .ensures, ← c .aim .ensures)
+
+pub aimed-spec : {M : Type 1} → statement M
+aimed-spec = tie.close (tie.spec goes-requires aim-requires returns)

@@ -1,0 +1,101 @@
+-- How a decomposition begins: the whole collection is the first part, and pending.
+use Prim.Native.Nat.{ℕ, _+_, _≤_, _<_}
+use mathlib.Core.Path.{_≡_}
+use mathlib.Core.Bool.{cond}
+use mathlib.Core.List.{List, []}
+use lib.ListN.{length, getD}
+use lib.Dec.{eqb}
+use Rattle.graph.specs.Graph.{graph, Valid}
+use Rattle.graph.specs.Limits.{mostVertices, mostEdges, numbersNeeded, wordsNeeded}
+use Rattle.parts.specs.Chain.{head}
+use Rattle.parts.specs.State.{ord}
+use Rattle.parts.specs.Divide.{Blank}
+use Rattle.pivot.specs.Order.{Arranged}
+use Rattle.pivot.specs.declared.chooser.Chooser.{Chooser}
+use Rattle.waiting.specs.Records.{none}
+use Rattle.decompose.specs.declared.machine.Machine.{Machine}
+use Rattle.decompose.specs.Aim.{aimed}
+use Rattle.decompose.specs.Machine.{base, Whole}
+use Rattle.decompose.specs.Waits.{Waits}
+use Rattle.decompose.specs.Promise.{refusalOf}
+
+-- len numbers from x on were put, each by its place
+pub record Put (x len : ℕ) (f : ℕ → ℕ) (w w' : List ℕ) : Type 0 where
+  pub here : (j : ℕ) → j < len → getD w' (x + j) 0 ≡ f j
+  pub low : (j : ℕ) → j < x → getD w' j 0 ≡ getD w j 0
+  pub high : (j : ℕ) → x + len ≤ j → getD w' j 0 ≡ getD w j 0
+  pub long : length w' ≡ length w
+
+pub record NumberAsk (x len : ℕ) (w : List ℕ) : Type 0 where
+  pub fits : x + len ≤ length w
+  pub small : len ≤ mostVertices
+
+-- the caller's list counts for kind 2 only
+abbrev pub listOf : ℕ → List ℕ → List ℕ
+listOf kind list = cond (eqb kind 2) list []
+
+pub record StartAsk (n : ℕ) (src tgt : List ℕ) (num wor : List ℕ) : Type 0 where
+  pub valid : Valid (graph n src tgt)
+  pub small : n ≤ mostVertices
+  pub few : length src ≤ mostEdges
+  pub some : 0 < n
+  pub memory : numbersNeeded n (length src) ≤ length num
+  pub words : wordsNeeded n ≤ length wor
+
+pub record Started (n : ℕ) (src tgt : List ℕ) (kind : ℕ) (list num wor num' wor' : List ℕ) : Type 0 where
+  pub waits : Waits (graph n src tgt) (base n src) (n + 1) 1 (head n (base n src) num') num'
+  pub whole : Whole n (base n src) (head n (base n src) num' 0) (n + 1) num'
+  pub order : Arranged n (listOf kind list) (ord n (base n src) num')
+  pub blank : Blank n wor'
+  pub long : length num' ≡ length num
+  pub beyond : (j : ℕ) → numbersNeeded n (length src) ≤ j → getD num' j 0 ≡ getD num j 0
+  pub words-long : length wor' ≡ length wor
+  pub words : (j : ℕ) → wordsNeeded n ≤ j → getD wor' j 0 ≡ getD wor j 0
+
+-- a machine with nothing to do
+abbrev pub idleWith : ℕ → Machine
+idleWith k =
+    record {
+      go = 0;
+      read = 0;
+      part = none;
+      draws = 0;
+      made = 0;
+      refusal = k;
+      order = 0;
+      cleared = 0;
+      oldest = 0;
+      count = 0;
+      given = 0;
+      pending = 0;
+      slicing = 0;
+      top = 0;
+    }
+
+-- the whole is pending, to be sliced by method 1
+abbrev pub firstOne : (n method order : ℕ) → Machine
+firstOne n method order =
+    record {
+      go = 0;
+      read = 0;
+      part = none;
+      draws = 0;
+      made = 0;
+      refusal = 0;
+      order = order;
+      cleared = 0;
+      oldest = 0;
+      count = 0;
+      given = 0;
+      pending = 1;
+      slicing = method;
+      top = n + 1;
+    }
+
+-- refused, or nothing to do, or begun
+pub data Begun (n : ℕ) (src tgt : List ℕ) (method order : ℕ) (c : Chooser) (list : List ℕ) (waiting label : ℕ) (num wor : List ℕ) : List ℕ → List ℕ → Machine → Type 0 where
+  refused : (refusalOf n src tgt method order (c .kind) label waiting (length num) (length wor) ≡ 0 → ⊥)
+      → Begun n src tgt method order c list waiting label num wor num wor (idleWith (refusalOf n src tgt method order (c .kind) label waiting (length num) (length wor)))
+  nothing : refusalOf n src tgt method order (c .kind) label waiting (length num) (length wor) ≡ 0 → n ≡ 0 → Begun n src tgt method order c list waiting label num wor num wor (idleWith 0)
+  begun : {num' wor' : List ℕ} → refusalOf n src tgt method order (c .kind) label waiting (length num) (length wor) ≡ 0 → 0 < n
+      → Started n src tgt (c .kind) list num wor num' wor' → Begun n src tgt method order c list waiting label num wor num' wor' (aimed n (firstOne n method order))

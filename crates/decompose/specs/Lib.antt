@@ -1,0 +1,9 @@
+pub mod Aim
+pub mod Waits
+pub mod Machine
+pub mod Running
+pub mod Turns
+pub mod Promise
+pub mod Begin
+pub mod Finish
+pub mod Plain

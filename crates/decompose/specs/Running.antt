@@ -1,0 +1,61 @@
+-- What holds between two turns.
+use Prim.Native.Nat.{ℕ, _+_, _-_, _≤_, _<_}
+use mathlib.Core.Path.{_≡_}
+use mathlib.Core.List.{List}
+use mathlib.Core.Logic.{_⊎_}
+use lib.ListN.{length, getD}
+use Rattle.graph.specs.Graph.{graph}
+use Rattle.graph.specs.Limits.{mostVertices, mostEdges, numbersNeeded, wordsNeeded}
+use Rattle.graph.specs.Pivot.{draws}
+use Rattle.parts.specs.State.{labelled, rings}
+use Rattle.waiting.specs.declared.Part.{Part}
+use Rattle.waiting.specs.Records.{none}
+use Rattle.pivot.specs.declared.chooser.Chooser.{Chooser}
+use Rattle.decompose.specs.declared.machine.Machine.{Machine}
+use Rattle.decompose.specs.Aim.{ring, aim, goes}
+use Rattle.decompose.specs.Waits.{Waits, waitingCount, firstOf}
+use Rattle.parts.specs.Divide.{Blank}
+use Rattle.decompose.specs.Machine.{base, Whole}
+
+-- the whole collection has still to be sliced
+pub record Slicing (n b : ℕ) (ys : List Part) (num : List ℕ) (s : Machine) : Type 0 where
+  pub one : s .slicing ≡ 1
+  pub alone : waitingCount s ≡ 1
+  pub whole : Whole n b (firstOf n b ys num s 0) (s .top) num
+  pub made : s .made ≡ 0
+
+pub record Running (n : ℕ) (src tgt : List ℕ) (c : Chooser) (ys : List Part) (num wor : List ℕ) (s : Machine) : Type 0 where
+  pub small : n ≤ mostVertices
+  pub few : length src ≤ mostEdges
+  pub records : n ≤ length ys
+  pub memory : numbersNeeded n (length src) ≤ length num
+  pub cleared : s .cleared ≤ n
+  pub oldest : s .oldest < n
+  pub pending : s .pending ≤ n
+  -- while records are cleared none waits; what is cleared and holds no record is zeros
+  pub early : s .cleared < n → s .count ≡ 0
+  pub zeros : (j : ℕ) → j < s .cleared → ((i : ℕ) → i < s .count → ring n s i ≡ j → ⊥) → getD ys j none ≡ none
+  -- only the whole collection is ever to be sliced
+  pub flags : (i : ℕ) → i < s .count → getD ys (ring n s i) none .slicing ≡ s .slicing
+  pub whole : (s .slicing ≡ 0) ⊎ Slicing n (base n src) ys num s
+  pub waits : Waits (graph n src tgt) (base n src) (s .top) (waitingCount s) (firstOf n (base n src) ys num s) num
+  pub blank : Blank n wor
+  -- kind 1 draws for each component of two or more, and at most twice for each vertex; the others never
+  pub drawn : c .kind ≡ 1 → rings (graph n src tgt) (base n src) num ≤ s .made
+  pub still : (c .kind ≡ 1 → ⊥) → s .made ≡ 0
+  pub most : s .made ≤ labelled (graph n src tgt) (base n src) num + n
+  pub going : s .go ≡ goes n s
+  pub reading : s .read ≡ aim n s
+
+-- What stays through turns: records beyond n, memory beyond what is needed, the kind; the state is advanced by the draws made.
+pub record Went (n m : ℕ) (c : Chooser) (ys : List Part) (num wor : List ℕ) (s : Machine) (c' : Chooser) (ys' : List Part) (num' wor' : List ℕ) (e : Machine) : Type 0 where
+  pub long : length ys' ≡ length ys
+  pub list : (j : ℕ) → n ≤ j → getD ys' j none ≡ getD ys j none
+  pub numbers-long : length num' ≡ length num
+  pub numbers : (j : ℕ) → numbersNeeded n m ≤ j → getD num' j 0 ≡ getD num j 0
+  pub words-long : length wor' ≡ length wor
+  pub words : (j : ℕ) → wordsNeeded n ≤ j → getD wor' j 0 ≡ getD wor j 0
+  pub kind : c' .kind ≡ c .kind
+  pub made : s .made ≤ e .made
+  pub state : c' .state ≡ draws (e .made - s .made) (c .state)
+  pub refusal : e .refusal ≡ s .refusal

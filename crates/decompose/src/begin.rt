@@ -1,0 +1,203 @@
+// The beginning of a decomposition: the tests, the indexes, the order, and the whole collection as the first part.
+ghost use mathlib.Core.Path.{_≡_};
+ghost use Prim.Native.Nat.{_+_, _≤_};
+ghost use lib.ListN.{length};
+ghost use Rattle.pivot.specs.Order.{Ordered};
+ghost use Rattle.pivot.specs.Placing.{Room};
+ghost use Rattle.decompose.specs.Promise.{refusalOf};
+ghost use Rattle.decompose.specs.Begin.{Put, NumberAsk, listOf, StartAsk, Started, idleWith, firstOne, Begun};
+ghost use Rattle.decompose.specs.Aim.{aimed as aimedAt};
+use crate::machine;
+use crate::machine::Machine;
+use graph::limits;
+use graph::table;
+use index::build;
+use index::memory;
+use pivot::chooser::Chooser;
+use pivot::order;
+use waiting::Part;
+
+// The first of 1 to 8 that applies, else 0.
+fn refusal(
+    n: usize,
+    sources: &[u32],
+    targets: &[u32],
+    method: u32,
+    order: u32,
+    kind: u32,
+    label: usize,
+    waiting: usize,
+    numbers: usize,
+    words: usize,
+) -> u32
+    ensures { λ k. ⌜ k ≡ refusalOf n (now (sources .entry)) (now (targets .entry)) method order kind label waiting numbers words ⌝ }
+{
+    let fault = table::check(n, sources, targets);
+    if fault != 0 {
+        return fault;
+    }
+    if label != n {
+        return limits::WRONG_LENGTH;
+    }
+    if numbers < 12 * n + 2 * sources.len() + 16 {
+        return limits::MEMORY_SHORT;
+    }
+    if words < 6 * ((n + 63) / 64) {
+        return limits::MEMORY_SHORT;
+    }
+    if waiting < n {
+        return limits::LIST_SHORT;
+    }
+    if 1 < method {
+        return limits::UNKNOWN_CHOICE;
+    }
+    if 2 < kind {
+        return limits::UNKNOWN_CHOICE;
+    }
+    if 1 < order {
+        return limits::UNKNOWN_CHOICE;
+    }
+    0
+}
+
+// len numbers from x on become y.
+fn fill(w: &mut [u32], x: usize, len: usize, y: u32)
+    requires { ⌜ x + len ≤ length (now w) ⌝ }
+    ensures { λ _. ⌜ Put x len (λ j. y) (now (w .entry)) (now (w .exit)) ⌝ }
+{
+    let mut i = 0;
+    while i < len {
+        w[x + i] = y;
+        i += 1;
+    }
+}
+
+// len numbers from x on become 1, 2, ..
+fn number(w: &mut [u32], x: usize, len: usize)
+    requires { ⌜ NumberAsk x len (now w) ⌝ }
+    ensures { λ _. ⌜ Put x len (λ j. j + 1) (now (w .entry)) (now (w .exit)) ⌝ }
+{
+    let mut i = 0;
+    while i < len {
+        w[x + i] = (i + 1) as u32;
+        i += 1;
+    }
+}
+
+// The order of the caller's list; kinds 0 and 1 know no list.
+fn arrange(n: usize, kind: u32, list: &[u32], w: &mut [u32], b: usize)
+    requires { ⌜ Room b n (now w) ⌝ }
+    ensures { λ _. ⌜ Ordered n (listOf kind (now (list .entry))) b (now (w .entry)) (now (w .exit)) ⌝ }
+{
+    if kind != 2 {
+        return order::arrange(&list[..0], n, w, b);
+    }
+    order::arrange(list, n, w, b);
+}
+
+// The indexes and the order are made, and the whole collection is the one part, pending.
+fn start(
+    n: usize,
+    sources: &[u32],
+    targets: &[u32],
+    kind: u32,
+    list: &[u32],
+    numbers: &mut [u32],
+    words: &mut [u64],
+)
+    requires { ⌜ StartAsk n (now sources) (now targets) (now numbers) (now words) ⌝ }
+    ensures { λ _. ⌜ Started n (now (sources .entry)) (now (targets .entry)) kind (now (list .entry)) (now (numbers .entry)) (now (words .entry)) (now (numbers .exit)) (now (words .exit)) ⌝ }
+{
+    let b = 2 * (n + 1 + sources.len());
+    build::both(sources, targets, n, numbers);
+    arrange(n, kind, list, numbers, b);
+    fill(numbers, b, n, n as u32);
+    number(numbers, b + 2 * n, n);
+    fill(numbers, b + 3 * n, 3 * n + 2, n as u32);
+    fill(numbers, b + 8 * n + 2, 1, 0);
+    memory::zero_words(words, 6 * ((n + 63) / 64));
+}
+
+// A machine with nothing to do, that refuses with k.
+fn idle(k: u32) -> Machine
+    ensures { λ s. ⌜ s ≡ idleWith k ⌝ }
+{
+    let p = Part {
+        first: 0,
+        slicing: 0,
+    };
+    Machine {
+        go: 0,
+        read: 0,
+        part: p,
+        draws: 0,
+        made: 0,
+        refusal: k,
+        order: 0,
+        cleared: 0,
+        oldest: 0,
+        count: 0,
+        given: 0,
+        pending: 0,
+        slicing: 0,
+        top: 0,
+    }
+}
+
+// The tests, and the machine before its first turn.
+pub fn begin(
+    n: usize,
+    sources: &[u32],
+    targets: &[u32],
+    method: u32,
+    order: u32,
+    chooser: Chooser,
+    list: &[u32],
+    waiting: usize,
+    label: usize,
+    numbers: &mut [u32],
+    words: &mut [u64],
+) -> Machine
+    ensures { λ s. ⌜ Begun n (now (sources .entry)) (now (targets .entry)) method order chooser (now (list .entry)) waiting label (now (numbers .entry)) (now (words .entry)) (now (numbers .exit)) (now (words .exit)) s ⌝ }
+{
+    let k = refusal(
+        n,
+        sources,
+        targets,
+        method,
+        order,
+        chooser.kind,
+        label,
+        waiting,
+        numbers.len(),
+        words.len(),
+    );
+    if k != 0 {
+        return idle(k);
+    }
+    if n == 0 {
+        return idle(0);
+    }
+    start(n, sources, targets, chooser.kind, list, numbers, words);
+    let p = Part {
+        first: 0,
+        slicing: 0,
+    };
+    let s = Machine {
+        go: 0,
+        read: 0,
+        part: p,
+        draws: 0,
+        made: 0,
+        refusal: 0,
+        order: order,
+        cleared: 0,
+        oldest: 0,
+        count: 0,
+        given: 0,
+        pending: 1,
+        slicing: method,
+        top: n + 1,
+    };
+    machine::aimed(n, s)
+}

@@ -1,0 +1,46 @@
+// The decomposer: the collection is taken apart into its components, and each vertex gets its label.
+ghost use Rattle.decompose.specs.Promise.{call, after, Promise};
+use finish::Answer;
+use pivot::chooser::Chooser;
+use waiting::Part;
+
+pub mod begin;
+pub mod finish;
+pub mod machine;
+pub mod plain;
+pub mod step;
+pub mod turns;
+
+// The labels by method 0 or 1; parts wait on the lent list, pivots are chosen by the lent chooser.
+pub fn decompose(
+    n: usize,
+    sources: &[u32],
+    targets: &[u32],
+    method: u32,
+    order: u32,
+    chooser: &mut Chooser,
+    list: &[u32],
+    waiting: &mut [Part],
+    label: &mut [u32],
+    numbers: &mut [u32],
+    words: &mut [u64],
+) -> Answer
+    ensures { λ a. ⌜ Promise (call n (now (sources .entry)) (now (targets .entry)) method order (now (chooser .entry)) (now (list .entry)) (now (waiting .entry)) (now (label .entry)) (now (numbers .entry)) (now (words .entry))) (after (now (chooser .exit)) (now (waiting .exit)) (now (label .exit)) (now (numbers .exit)) (now (words .exit))) a ⌝ }
+{
+    let c = pivot::chooser::copy(chooser);
+    let s = begin::begin(
+        n,
+        sources,
+        targets,
+        method,
+        order,
+        c,
+        list,
+        waiting.len(),
+        label.len(),
+        numbers,
+        words,
+    );
+    let e = turns::drive(n, sources, targets, chooser, waiting, numbers, words, s);
+    finish::finish(n, sources.len(), label, numbers, words, e)
+}
