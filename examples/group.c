@@ -8,17 +8,9 @@ static const uint32_t sources[M] = {0, 1, 2, 2, 3, 4, 5};
 static const uint32_t targets[M] = {1, 2, 0, 3, 4, 3, 5};
 
 static uint32_t label[N], rank[N], in_edge[N], in_distance[N], out_edge[N], out_distance[N];
+static struct tinoweala_part waiting[N];
 static uint32_t numbers[NUMBERS];
 static uint64_t words[WORDS];
-
-/* What vertex v reaches, or backward, what reaches it. */
-static uint64_t search(size_t v, bool backward) {
-    uint64_t start = UINT64_C(1) << v, all = ~UINT64_C(0), reached = 0;
-    size_t vertices, edges;
-    uint32_t no = tinoweala_search(
-        N, sources, M, targets, M, &start, 1, &all, 1, backward, &reached, 1, numbers, NUMBERS, words, WORDS, &vertices, &edges);
-    return no == TINOWEALA_DONE ? reached : 0;
-}
 
 static void column(const char *name, const uint32_t *of) {
     printf("%s", name);
@@ -33,22 +25,18 @@ static void column(const char *name, const uint32_t *of) {
 }
 
 int main(void) {
-    /* The smallest vertex without a group labels its own: what it reaches and what reaches it. */
-    uint64_t grouped = 0;
-    for (uint32_t v = 0; v < N; v++) {
-        if ((grouped >> v & 1) == 0) {
-            uint64_t group = search(v, false) & search(v, true);
-            grouped |= group;
-            for (uint32_t u = 0; u < N; u++) {
-                if ((group >> u & 1) == 1) {
-                    label[u] = v;
-                }
-            }
-        }
+    /* Method 1, the oldest part first, drawn pivots: other choices give the same labels. */
+    struct tinoweala_chooser chooser = {1, 0};
+    size_t draws = 0;
+    uint32_t no = tinoweala_decompose(
+        N, sources, M, targets, M, 1, 1, &chooser, NULL, 0, waiting, N, label, N, numbers, NUMBERS, words, WORDS, &draws);
+    if (no != TINOWEALA_DONE) {
+        printf("groups: refused %u\n", no);
+        return 1;
     }
     column("label", label);
 
-    uint32_t no = tinoweala_write_certificate(
+    no = tinoweala_write_certificate(
         N, sources, M, targets, M, label, N, rank, N, in_edge, N, in_distance, N, out_edge, N, out_distance, N, numbers, NUMBERS, words, WORDS);
     if (no != TINOWEALA_DONE) {
         printf("certificate: refused %u\n", no);

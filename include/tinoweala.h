@@ -106,6 +106,37 @@ uint32_t tinoweala_trim(
     uint64_t *words, size_t words_len,
     size_t *vertices);
 
+/* Chooses pivots: kind 0 takes the lowest vertex, 1 draws by its state, which each draw advances, 2 takes the first vertex of the caller's list that fits. */
+struct tinoweala_chooser {
+    uint32_t kind;
+    uint32_t state;
+};
+
+/* A record of the list of waiting parts. What it holds is the library's own affair; it may hold anything at first. */
+struct tinoweala_part {
+    uint32_t first;
+    uint32_t slicing;
+};
+
+/*
+ * The decomposer: 1, 2, 3, 4, 5, 6, 7, 8.
+ * label, n long (else 5), becomes the label column: the label of v is the smallest vertex that v reaches and that reaches v. Method 0 is forward-backward, 1 is OBF; order 0 takes the
+ * newest waiting part first, 1 the oldest; list is read by pivot kind 2 alone and may be empty. waiting has at least n records (else 7); the first n are zero afterwards, the others as they were.
+ * *draws becomes the number of draws, at most 2 * n, and 0 but for kind 1; the chooser's state is advanced that often. The labels are the same for every choice.
+ */
+uint32_t tinoweala_decompose(
+    size_t n,
+    const uint32_t *sources, size_t sources_len,
+    const uint32_t *targets, size_t targets_len,
+    uint32_t method, uint32_t order,
+    struct tinoweala_chooser *chooser,
+    const uint32_t *list, size_t list_len,
+    struct tinoweala_part *waiting, size_t waiting_len,
+    uint32_t *label, size_t label_len,
+    uint32_t *numbers, size_t numbers_len,
+    uint64_t *words, size_t words_len,
+    size_t *draws);
+
 /*
  * The shortest path: 1, 2, 3, 4, 6, 9, 11, 12.
  * The front of room becomes the edge numbers of the shortest path from u to v in walking order, *length their number; the rest of room is as it was. Among

@@ -10,6 +10,8 @@ use Rattle.trim.specs.Promise as trim
 use Rattle.trim.proofs.Unique.{trim-one}
 use Rattle.paths.specs.Promise as paths
 use Rattle.paths.proofs.Unique.{path-one}
+use Rattle.decompose.specs.Promise as decompose
+use Rattle.decompose.proofs.Unique.{drawsOf, decompose-one, decompose-still}
 use Rattle.checker.specs.Promise as checker
 use Rattle.checker.proofs.Unique.{check-one}
 use Rattle.summary.specs.Promise as summary
@@ -20,6 +22,7 @@ use Rattle.labels.proofs.Unique.{write-one}
 use Rattle.surface.specs.Search.{Searched}
 use Rattle.surface.specs.Trim.{Trimmed}
 use Rattle.surface.specs.Path.{Walked}
+use Rattle.surface.specs.Decompose.{Decomposed}
 use Rattle.surface.specs.Check.{Checked}
 use Rattle.surface.specs.Summary.{Summed}
 use Rattle.surface.specs.Read.{Read}
@@ -48,6 +51,24 @@ walked-one c d r w ws r' w' ws' out out' p q =
     let x = p .gives in
     let y = q .gives in
     (cc, s, t, u)
+
+-- kind 1: outcomes with equally many draws
+pub decomposed-one : (c : decompose.Call) (d : ℕ) (a b : decompose.After) (out out' : ℕ × ℕ) (p : Decomposed c d a out) (q : Decomposed c d b out')
+    → drawsOf (p .answer) ≡ drawsOf (q .answer) → (out ≡ out') × (a ≡ b)
+decomposed-one c d a b out out' p q e =
+    let (r, s) = decompose-one (p .answer) (q .answer) (p .promised) (q .promised) e in
+    let x = p .gives in
+    let y = q .gives in
+    (cc, s)
+
+-- kinds 0 and 2, which never draw
+pub decomposed-still : (c : decompose.Call) (d : ℕ) (a b : decompose.After) (out out' : ℕ × ℕ)
+    → Decomposed c d a out → Decomposed c d b out' → (c .chooser .kind ≡ 1 → ⊥) → (out ≡ out') × (a ≡ b)
+decomposed-still c d a b out out' p q e =
+    let (r, s) = decompose-still (p .answer) (q .answer) (p .promised) (q .promised) e in
+    let x = p .gives in
+    let y = q .gives in
+    (cc, s)
 
 pub checked-one : (c : checker.Call) (k v : ℕ) (out out' : ℕ × ℕ × ℕ) → Checked c k v out → Checked c k v out' → out ≡ out'
 checked-one c k v out out' p q =

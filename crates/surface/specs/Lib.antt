@@ -1,6 +1,7 @@
 pub mod Search
 pub mod Trim
 pub mod Path
+pub mod Decompose
 pub mod Check
 pub mod Summary
 pub mod Read
