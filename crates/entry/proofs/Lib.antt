@@ -1,4 +1,4 @@
 pub mod Outcome
 pub mod Returned
 pub mod Unique
-pub mod Searching
+pub mod Plain
