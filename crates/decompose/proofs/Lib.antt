@@ -9,3 +9,4 @@ pub mod Ending
 pub mod Promising
 pub mod Unique
 pub mod Own
+pub mod Order

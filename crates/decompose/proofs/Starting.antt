@@ -49,7 +49,7 @@ unfolding least
 least-same zero f h e = refl
 least-same (suc n) f h e = rw (e zero, least-same n (λ i. f (suc i)) (λ i. h (suc i)) (λ i. e (suc i)))
 
-arranged-same : {n : ℕ} {list : List ℕ} {f h : ℕ → ℕ} → ((i : ℕ) → h i ≡ f i) → Arranged n list f → Arranged n list h
+pub arranged-same : {n : ℕ} {list : List ℕ} {f h : ℕ → ℕ} → ((i : ℕ) → h i ≡ f i) → Arranged n list f → Arranged n list h
 arranged-same {n} {list} {f} {h} e a =
     record {
       low = λ i l. omega (arith, e i, a .low i l);

@@ -1,0 +1,20 @@
+-- The order of the pivots stays as it was arranged at the beginning, so that each division chooses by the caller's list.
+use Prim.Native.Nat.{ℕ, _+_, _*_}
+use native.Mathlib.Omega.{arith}
+use mathlib.Core.List.{List}
+use Rattle.graph.specs.Graph.{Graph}
+use Rattle.pivot.specs.Order.{Arranged}
+use Rattle.parts.specs.State.{ord}
+use Rattle.parts.specs.Divide.{Handed}
+use Rattle.decompose.specs.Machine.{Cut, parted, sliced}
+use Rattle.decompose.proofs.Starting.{arranged-same}
+
+pub order-kept : {g : Graph} {b h top : ℕ} {w ws w' ws' : List ℕ} {top' children : ℕ} (list : List ℕ)
+    → Handed g b h top w ws w' ws' top' children → Arranged (g .n) list (ord (g .n) b w) → Arranged (g .n) list (ord (g .n) b w')
+order-kept {g} {b} list v a = arranged-same (λ i. v .high (b + 9 * g .n + 2 + i) (omega arith)) a
+
+-- by either method
+pub cut-order : {g : Graph} {b kind h top slicing : ℕ} {w ws w' ws' : List ℕ} {k top' children : ℕ} (list : List ℕ)
+    → Cut g b kind h top slicing w ws w' ws' k top' children → Arranged (g .n) list (ord (g .n) b w) → Arranged (g .n) list (ord (g .n) b w')
+cut-order list (parted v x y f o) a = order-kept list v a
+cut-order list (sliced v x y f o) a = order-kept list v a
