@@ -2,6 +2,7 @@
 ghost use mathlib.Core.Path.{_≡_};
 ghost use Prim.Native.Nat.{_+_, _≤_};
 ghost use lib.ListN.{length};
+ghost use Rattle.graph.specs.Limits.{mostVertices};
 ghost use Rattle.pivot.specs.Order.{Ordered};
 ghost use Rattle.pivot.specs.Placing.{Room};
 ghost use Rattle.decompose.specs.Promise.{refusalOf};
@@ -144,6 +145,33 @@ fn idle(k: u32) -> Machine
     }
 }
 
+// The whole collection is pending, to be sliced by method 1.
+fn first(n: usize, method: u32, order: u32) -> Machine
+    requires { ⌜ n ≤ mostVertices ⌝ }
+    ensures { λ s. ⌜ s ≡ firstOne n method order ⌝ }
+{
+    let p = Part {
+        first: 0,
+        slicing: 0,
+    };
+    Machine {
+        go: 0,
+        read: 0,
+        part: p,
+        draws: 0,
+        made: 0,
+        refusal: 0,
+        order: order,
+        cleared: 0,
+        oldest: 0,
+        count: 0,
+        given: 0,
+        pending: 1,
+        slicing: method,
+        top: n + 1,
+    }
+}
+
 // The tests, and the machine before its first turn.
 pub fn begin(
     n: usize,
@@ -179,25 +207,5 @@ pub fn begin(
         return idle(0);
     }
     start(n, sources, targets, chooser.kind, list, numbers, words);
-    let p = Part {
-        first: 0,
-        slicing: 0,
-    };
-    let s = Machine {
-        go: 0,
-        read: 0,
-        part: p,
-        draws: 0,
-        made: 0,
-        refusal: 0,
-        order: order,
-        cleared: 0,
-        oldest: 0,
-        count: 0,
-        given: 0,
-        pending: 1,
-        slicing: method,
-        top: n + 1,
-    };
-    machine::aimed(n, s)
+    machine::aimed(n, first(n, method, order))
 }

@@ -13,7 +13,10 @@ same-length : tie.Need-same-length
 same-length c = search needs
 
 returns : tie.Need-returns
-returns c = rw (ne-eqb _ _ (c .before .before .before .before .before .if1 .taken)) (c .before .before .arrange .ensures)
+returns c =
+    let at-arrange = c .before .before in
+    let at-if1 = at-arrange .before .before .before in
+    rw (ne-eqb _ _ (at-if1 .if1 .taken)) (at-arrange .arrange .ensures)
 
 arrange-requires-2 : tie.Need-arrange-requires-2
 arrange-requires-2 c κs = search needs
@@ -22,7 +25,10 @@ same-length-2 : tie.Need-same-length-2
 same-length-2 c = search needs
 
 returns-2 : tie.Need-returns-2
-returns-2 c = rw (eq-eqb _ _ (c .before .before .before .before .if1 .left)) (c .before .before .arrange2 .ensures)
+returns-2 c =
+    let at-arrange2 = c .before .before in
+    let at-if1 = at-arrange2 .before .before in
+    rw (eq-eqb _ _ (at-if1 .if1 .left)) (at-arrange2 .arrange2 .ensures)
 
 pub arrange-spec : {M : Type 1} → statement M
 arrange-spec =

@@ -13,23 +13,34 @@ idle-requires : tie.Need-idle-requires
 idle-requires c κs = search needs
 
 returns : tie.Need-returns
-returns c = rw (c .idle .ensures, c .before .before .refusal .ensures) (refused (λ e. c .before .if1 .taken (c .before .before .refusal .ensures ∙ e)))
+returns c =
+    let at-if1 = c .before in
+    let at-refusal = at-if1 .before in
+    rw (c .idle .ensures, at-refusal .refusal .ensures) (refused (λ e. at-if1 .if1 .taken (at-refusal .refusal .ensures ∙ e)))
 
 idle-requires-2 : tie.Need-idle-requires-2
 idle-requires-2 c κs = search needs
 
 returns-2 : tie.Need-returns-2
-returns-2 c = rw (c .idle2 .ensures) (nothing (sym (c .before .before .before .refusal .ensures) ∙ c .before .before .if1 .left) (c .before .if2 .taken))
+returns-2 c =
+    let at-if2 = c .before in
+    let at-if1 = at-if2 .before in
+    let at-refusal = at-if1 .before in
+    rw (c .idle2 .ensures) (nothing (sym (at-refusal .refusal .ensures) ∙ at-if1 .if1 .left) (at-if2 .if2 .taken))
 
 start-requires : tie.Need-start-requires
-start-requires c κs = let a = accepted (sym (c .before .before .before .before .refusal .ensures) ∙ c .before .before .before .if1 .left) in
-    record { valid = a .valid; small = a .small; few = a .few; some = omega (arith, c .before .before .if2 .left); memory = a .numbers; words = a .words }
+start-requires c κs =
+    let at-if2 = c .before .before in
+    let at-if1 = at-if2 .before in
+    let at-refusal = at-if1 .before in
+    let a = accepted (sym (at-refusal .refusal .ensures) ∙ at-if1 .if1 .left) in
+    record { valid = a .valid; small = a .small; few = a .few; some = omega (arith, at-if2 .if2 .left); memory = a .numbers; words = a .words }
 
-add-t15 : tie.Need-add-t15
-add-t15 c = search needs
+first-requires : tie.Need-first-requires
+first-requires c κs = search needs
 
 aimed-requires : tie.Need-aimed-requires
-aimed-requires c κs = search needs
+aimed-requires c κs = rw (c .first .ensures) (record { oldest = omega arith; count = omega arith })
 
 same-length : tie.Need-same-length
 same-length c = search needs
@@ -38,7 +49,13 @@ same-length-2 : tie.Need-same-length-2
 same-length-2 c = search needs
 
 returns-3 : tie.Need-returns-3
-returns-3 c = rw (c .aimed .ensures) (begun (sym (c .before .before .before .before .before .before .before .before .before .before .refusal .ensures) ∙ c .before .before .before .before .before .before .before .before .before .if1 .left) (omega (arith, c .before .before .before .before .before .before .before .before .if2 .left)) (c .before .before .before .before .before .start .ensures))
+returns-3 c =
+    let at-first = c .before in
+    let at-start = at-first .before .before .before .before .before in
+    let at-if2 = at-start .before .before .before in
+    let at-if1 = at-if2 .before in
+    let at-refusal = at-if1 .before in
+    rw (c .aimed .ensures, at-first .first .ensures) (begun (sym (at-refusal .refusal .ensures) ∙ at-if1 .if1 .left) (omega (arith, at-if2 .if2 .left)) (at-start .start .ensures))
 
 pub begin-spec : {M : Type 1} → statement M
 begin-spec =
@@ -50,7 +67,7 @@ begin-spec =
     idle-requires-2
     returns-2
     start-requires
-    add-t15
+    first-requires
     aimed-requires
     same-length
     same-length-2

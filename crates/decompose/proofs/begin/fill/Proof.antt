@@ -17,13 +17,19 @@ loop-holds : tie.Need-loop-holds Inv-loop μ-loop
 loop-holds c = (omega arith, put-none (c .args .x) (λ j. c .args .y) (c .args .w .now))
 
 add-w : tie.Need-add-w Inv-loop μ-loop
-add-w c = omega (arith, c .before .loop .inv .1 .long)
+add-w c =
+    let at-loop = c .before in
+    omega (arith, at-loop .loop .inv .1 .long)
 
 mul-w : tie.Need-mul-w Inv-loop μ-loop
-mul-w c = omega (arith, c .before .loop .inv .1 .long)
+mul-w c =
+    let at-loop = c .before in
+    omega (arith, at-loop .loop .inv .1 .long)
 
 slice-write-w : tie.Need-slice-write-w Inv-loop μ-loop
-slice-write-w c = omega (arith, c .before .loop .inv .1 .long)
+slice-write-w c =
+    let at-loop = c .before in
+    omega (arith, at-loop .loop .inv .1 .long)
 
 add-i : tie.Need-add-i Inv-loop μ-loop
 add-i c = search needs
@@ -32,13 +38,21 @@ loop-less : tie.Need-loop-less Inv-loop μ-loop
 loop-less c = search needs
 
 loop-again : tie.Need-loop-again Inv-loop μ-loop
-loop-again c = (omega arith, put-step (c .before .before .args .y) refl (omega (arith, c .before .before .pre)) (c .before .loop .inv .1))
+loop-again c =
+    let at-loop = c .before in
+    let start = at-loop .before in
+    (omega arith, put-step (start .args .y) refl (omega (arith, start .pre)) (at-loop .loop .inv .1))
 
 same-length : tie.Need-same-length Inv-loop μ-loop
-same-length c = c .before .loop .inv .1 .long
+same-length c =
+    let at-loop = c .before in
+    at-loop .loop .inv .1 .long
 
 returns : tie.Need-returns Inv-loop μ-loop
-returns c = let e : c .before .loop .i ≡ c .before .before .args .len = omega arith in rw e at (c .before .loop .inv .1)
+returns c =
+    let at-loop = c .before in
+    let start = at-loop .before in
+    let e : at-loop .loop .i ≡ start .args .len = omega arith in rw e at (at-loop .loop .inv .1)
 
 pub fill-spec : {M : Type 1} → statement M
 fill-spec =

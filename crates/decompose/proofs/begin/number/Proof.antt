@@ -17,19 +17,32 @@ loop-holds : tie.Need-loop-holds Inv-loop μ-loop
 loop-holds c = (omega arith, put-none (c .args .x) (λ j. j + 1) (c .args .w .now))
 
 add-w : tie.Need-add-w Inv-loop μ-loop
-add-w c = omega (arith, c .before .before .pre .small)
+add-w c =
+    let start = c .before .before in
+    omega (arith, start .pre .small)
 
 cast-w : tie.Need-cast-w Inv-loop μ-loop
-cast-w c = omega (arith, c .before .before .pre .small)
+cast-w c =
+    let start = c .before .before in
+    omega (arith, start .pre .small)
 
 add-w-2 : tie.Need-add-w-2 Inv-loop μ-loop
-add-w-2 c = omega (arith, c .before .loop .inv .1 .long, c .before .before .pre .fits)
+add-w-2 c =
+    let at-loop = c .before in
+    let start = at-loop .before in
+    omega (arith, at-loop .loop .inv .1 .long, start .pre .fits)
 
 mul-w : tie.Need-mul-w Inv-loop μ-loop
-mul-w c = omega (arith, c .before .loop .inv .1 .long, c .before .before .pre .fits)
+mul-w c =
+    let at-loop = c .before in
+    let start = at-loop .before in
+    omega (arith, at-loop .loop .inv .1 .long, start .pre .fits)
 
 slice-write-w : tie.Need-slice-write-w Inv-loop μ-loop
-slice-write-w c = omega (arith, c .before .loop .inv .1 .long, c .before .before .pre .fits)
+slice-write-w c =
+    let at-loop = c .before in
+    let start = at-loop .before in
+    omega (arith, at-loop .loop .inv .1 .long, start .pre .fits)
 
 add-i : tie.Need-add-i Inv-loop μ-loop
 add-i c = search needs
@@ -38,13 +51,21 @@ loop-less : tie.Need-loop-less Inv-loop μ-loop
 loop-less c = search needs
 
 loop-again : tie.Need-loop-again Inv-loop μ-loop
-loop-again c = (omega arith, put-step (c .before .loop .i + 1) refl (omega (arith, c .before .before .pre .fits)) (c .before .loop .inv .1))
+loop-again c =
+    let at-loop = c .before in
+    let start = at-loop .before in
+    (omega arith, put-step (at-loop .loop .i + 1) refl (omega (arith, start .pre .fits)) (at-loop .loop .inv .1))
 
 same-length : tie.Need-same-length Inv-loop μ-loop
-same-length c = c .before .loop .inv .1 .long
+same-length c =
+    let at-loop = c .before in
+    at-loop .loop .inv .1 .long
 
 returns : tie.Need-returns Inv-loop μ-loop
-returns c = let e : c .before .loop .i ≡ c .before .before .args .len = omega arith in rw e at (c .before .loop .inv .1)
+returns c =
+    let at-loop = c .before in
+    let start = at-loop .before in
+    let e : at-loop .loop .i ≡ start .args .len = omega arith in rw e at (at-loop .loop .inv .1)
 
 pub number-spec : {M : Type 1} → statement M
 number-spec =

@@ -16,7 +16,9 @@ mul-b : tie.Need-mul-b
 mul-b c = search needs
 
 both-requires : tie.Need-both-requires
-both-requires c κs = let a = c .before .before .before .before .before .before .pre in
+both-requires c κs =
+    let start = c .before .before .before .before .before .before in
+    let a = start .pre in
     record {
       forward = record { below = a .valid .from-low; small = omega (arith, a .small); few = omega (arith, a .few) };
       reverse = record { below = λ e h. a .valid .to-low e (omega (arith, a .valid .same)); small = omega (arith, a .small); few = omega (arith, a .few, a .valid .same) };
@@ -73,13 +75,19 @@ fill-requires-3 : tie.Need-fill-requires-3
 fill-requires-3 c κs = search needs
 
 add-zero-words : tie.Need-add-zero-words
-add-zero-words c = omega (arith, c .before .before .before .before .before .before .before .before .before .before .before .before .before .before .before .before .before .before .before .before .before .before .before .before .before .before .before .before .before .before .pre .small)
+add-zero-words c =
+    let start = c .before .before .before .before .before .before .before .before .before .before .before .before .before .before .before .before .before .before .before .before .before .before .before .before .before .before .before .before .before .before in
+    omega (arith, start .pre .small)
 
 mul-zero-words : tie.Need-mul-zero-words
-mul-zero-words c = omega (arith, c .before .before .before .before .before .before .before .before .before .before .before .before .before .before .before .before .before .before .before .before .before .before .before .before .before .before .before .before .before .before .pre .small)
+mul-zero-words c =
+    let start = c .before .before .before .before .before .before .before .before .before .before .before .before .before .before .before .before .before .before .before .before .before .before .before .before .before .before .before .before .before .before in
+    omega (arith, start .pre .small)
 
 zero-words-requires : tie.Need-zero-words-requires
-zero-words-requires c κs = c .before .before .before .before .before .before .before .before .before .before .before .before .before .before .before .before .before .before .before .before .before .before .before .before .before .before .before .before .before .before .pre .words
+zero-words-requires c κs =
+    let start = c .before .before .before .before .before .before .before .before .before .before .before .before .before .before .before .before .before .before .before .before .before .before .before .before .before .before .before .before .before .before in
+    start .pre .words
 
 same-length : tie.Need-same-length
 same-length c = search needs
@@ -88,7 +96,16 @@ same-length-2 : tie.Need-same-length-2
 same-length-2 c = search needs
 
 returns : tie.Need-returns
-returns c = started (c .before .before .before .before .before .before .before .before .before .before .before .before .before .before .before .before .before .before .before .before .before .before .before .before .before .before .before .before .before .before .before .before .before .args .n) (c .before .before .before .before .before .before .before .before .before .before .before .before .before .before .before .before .before .before .before .before .before .before .before .before .before .before .before .before .before .before .before .before .before .args .sources .now) (c .before .before .before .before .before .before .before .before .before .before .before .before .before .before .before .before .before .before .before .before .before .before .before .before .before .before .before .before .before .before .before .before .before .args .targets .now) (listOf (c .before .before .before .before .before .before .before .before .before .before .before .before .before .before .before .before .before .before .before .before .before .before .before .before .before .before .before .before .before .before .before .before .before .args .kind) (c .before .before .before .before .before .before .before .before .before .before .before .before .before .before .before .before .before .before .before .before .before .before .before .before .before .before .before .before .before .before .before .before .before .args .list .now)) (c .before .before .before .before .before .before .before .before .before .before .before .before .before .before .before .before .before .before .before .before .before .before .before .before .before .before .before .before .before .before .before .before .before .pre) (c .before .before .before .before .before .before .before .before .before .before .before .before .before .before .before .before .before .before .before .before .before .before .before .before .before .before .both .ensures) (c .before .before .before .before .before .before .before .before .before .before .before .before .before .before .before .before .before .before .before .before .before .before .arrange .ensures) (c .before .before .before .before .before .before .before .before .before .before .before .before .before .before .before .before .before .before .fill .ensures) (c .before .before .before .before .before .before .before .before .before .before .before .before .before .before .number .ensures) (c .before .before .before .before .before .before .before .before .before .before .fill2 .ensures) (c .before .before .before .before .before .before .fill3 .ensures) (c .before .before .zero-words .ensures) (c .before .before .before .before .before .before .before .before .before .before .before .before .before .before .before .before .before .before .before .before .before .before .before .before .before .before .before .before .before .before .before .before .before .args .kind) (c .before .before .before .before .before .before .before .before .before .before .before .before .before .before .before .before .before .before .before .before .before .before .before .before .before .before .before .before .before .before .before .before .before .args .list .now) refl
+returns c =
+    let at-zero-words = c .before .before in
+    let at-fill3 = at-zero-words .before .before .before .before in
+    let at-fill2 = at-fill3 .before .before .before .before in
+    let at-number = at-fill2 .before .before .before .before in
+    let at-fill = at-number .before .before .before .before in
+    let at-arrange = at-fill .before .before .before .before in
+    let at-both = at-arrange .before .before .before .before in
+    let start = at-both .before .before .before .before .before .before .before in
+    started (start .args .n) (start .args .sources .now) (start .args .targets .now) (listOf (start .args .kind) (start .args .list .now)) (start .pre) (at-both .both .ensures) (at-arrange .arrange .ensures) (at-fill .fill .ensures) (at-number .number .ensures) (at-fill2 .fill2 .ensures) (at-fill3 .fill3 .ensures) (at-zero-words .zero-words .ensures) (start .args .kind) (start .args .list .now) refl
 
 pub start-spec : {M : Type 1} → statement M
 start-spec =

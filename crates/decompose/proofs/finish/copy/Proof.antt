@@ -37,13 +37,20 @@ loop-less : tie.Need-loop-less Inv-loop μ-loop
 loop-less c = omega arith
 
 loop-again : tie.Need-loop-again Inv-loop μ-loop
-loop-again c = (omega arith, copied-step (omega arith) (c .before .before .loop .inv .1))
+loop-again c =
+    let at-loop = c .before .before in
+    (omega arith, copied-step (omega arith) (at-loop .loop .inv .1))
 
 same-length : tie.Need-same-length Inv-loop μ-loop
-same-length c = c .before .loop .inv .1 .long
+same-length c =
+    let at-loop = c .before in
+    at-loop .loop .inv .1 .long
 
 returns : tie.Need-returns Inv-loop μ-loop
-returns c = let e : c .before .loop .v ≡ c .before .before .args .n = omega arith in rw e at (c .before .loop .inv .1)
+returns c =
+    let at-loop = c .before in
+    let start = at-loop .before in
+    let e : at-loop .loop .v ≡ start .args .n = omega arith in rw e at (at-loop .loop .inv .1)
 
 pub copy-spec : {M : Type 1} → statement M
 copy-spec =

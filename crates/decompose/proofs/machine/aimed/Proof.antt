@@ -10,7 +10,9 @@ aim-requires : tie.Need-aim-requires
 aim-requires c κs = search needs
 
 returns : tie.Need-returns
-returns c = rw (← c .before .goes .ensures, ← c .aim .ensures)
+returns c =
+    let at-goes = c .before in
+    rw (← at-goes .goes .ensures, ← c .aim .ensures)
 
 pub aimed-spec : {M : Type 1} → statement M
 aimed-spec = tie.close (tie.spec goes-requires aim-requires returns)

@@ -14,7 +14,10 @@ mul-b : tie.Need-mul-b
 mul-b c = search needs
 
 divide-requires : tie.Need-divide-requires
-divide-requires c κs = cut-whole (c .before .before .before .before .before .before .before .before .pre) (c .before .before .if1 .taken)
+divide-requires c κs =
+    let at-if1 = c .before .before in
+    let start = at-if1 .before .before .before .before .before .before in
+    cut-whole (start .pre) (at-if1 .if1 .taken)
 
 same-length : tie.Need-same-length
 same-length c = search needs
@@ -23,7 +26,11 @@ same-length-2 : tie.Need-same-length-2
 same-length-2 c = search needs
 
 returns : tie.Need-returns
-returns c = cut-sliced (c .before .before .before .before .before .before .before .before .before .before .before .before .before .pre .whole (c .before .before .before .before .before .before .before .if1 .taken) .zero) (c .before .before .before .before .before .before .before .if1 .taken) (c .before .before .before .before .divide .ensures)
+returns c =
+    let at-divide = c .before .before .before .before in
+    let at-if1 = at-divide .before .before .before in
+    let start = at-if1 .before .before .before .before .before .before in
+    cut-sliced (start .pre .whole (at-if1 .if1 .taken) .zero) (at-if1 .if1 .taken) (at-divide .divide .ensures)
 
 cast-divide : tie.Need-cast-divide
 cast-divide c = search needs
@@ -38,7 +45,9 @@ same-length-4 : tie.Need-same-length-4
 same-length-4 c = search needs
 
 returns-2 : tie.Need-returns-2
-returns-2 c = cut-parted (c .before .before .before .before .divide2 .ensures)
+returns-2 c =
+    let at-divide2 = c .before .before .before .before in
+    cut-parted (at-divide2 .divide2 .ensures)
 
 pub cut-spec : {M : Type 1} → statement M
 cut-spec =

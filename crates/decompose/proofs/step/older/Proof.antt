@@ -13,7 +13,9 @@ wrap-requires : tie.Need-wrap-requires
 wrap-requires c κs = search needs
 
 returns-2 : tie.Need-returns-2
-returns-2 c = rw (ne-eqb _ _ (c .before .before .if1 .left)) (c .wrap .ensures)
+returns-2 c =
+    let at-if1 = c .before .before in
+    rw (ne-eqb _ _ (at-if1 .if1 .left)) (c .wrap .ensures)
 
 pub older-spec : {M : Type 1} → statement M
 older-spec = tie.close (tie.spec returns add-wrap wrap-requires returns-2)

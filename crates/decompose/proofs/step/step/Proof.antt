@@ -8,17 +8,25 @@ clear-requires : tie.Need-clear-requires
 clear-requires c κs = search needs
 
 returns : tie.Need-returns
-returns c = rw (c .clear .ensures) (clears (c .before .if1 .taken))
+returns c =
+    let at-if1 = c .before in
+    rw (c .clear .ensures) (clears (at-if1 .if1 .taken))
 
 hand-requires : tie.Need-hand-requires
-hand-requires c κs = let a = c .before .before .before .before .before .before .before .before .before .pre in
-    record { small = a .small; few = a .few; fits = a .fits; oldest = a .oldest; count = a .room (c .before .if2 .taken); given = omega (arith, a .pending, c .before .if2 .taken) }
+hand-requires c κs =
+    let at-if2 = c .before in
+    let start = at-if2 .before .before .before .before .before .before .before .before in
+    let a = start .pre in
+    record { small = a .small; few = a .few; fits = a .fits; oldest = a .oldest; count = a .room (at-if2 .if2 .taken); given = omega (arith, a .pending, at-if2 .if2 .taken) }
 
 same-length : tie.Need-same-length
 same-length c = search needs
 
 returns-2 : tie.Need-returns-2
-returns-2 c = rw (c .hand .ensures) (hands (c .before .before .before .before .if1 .left) (c .before .before .if2 .taken))
+returns-2 c =
+    let at-if2 = c .before .before in
+    let at-if1 = at-if2 .before .before in
+    rw (c .hand .ensures) (hands (at-if1 .if1 .left) (at-if2 .if2 .taken))
 
 take-requires : tie.Need-take-requires
 take-requires c κs = search needs

@@ -18,8 +18,13 @@ same-length : tie.Need-same-length
 same-length c = search needs
 
 returns : tie.Need-returns
-returns c = let u = c .before .before .before .before .before .before .before .before .before .before .unmark .ensures in
-    record { order = c .before .before .others .ensures .order (c .before .before .before .before .before .before .before .before .before .before .before .before .before .before .args .list .now) (c .before .before .before .before .before .before .listed .ensures .leads); beside = beside-more (beside-framed (u .framed)) (beside-more (c .before .before .before .before .before .before .listed .ensures .beside) (c .before .before .others .ensures .beside)) }
+returns c =
+    let at-others = c .before .before in
+    let at-listed = at-others .before .before .before .before in
+    let at-unmark = at-listed .before .before .before .before in
+    let start = at-unmark .before .before .before .before in
+    let u = at-unmark .unmark .ensures in
+    record { order = at-others .others .ensures .order (start .args .list .now) (at-listed .listed .ensures .leads); beside = beside-more (beside-framed (u .framed)) (beside-more (at-listed .listed .ensures .beside) (at-others .others .ensures .beside)) }
 
 pub arrange-spec : {M : Type 1} → statement M
 arrange-spec =

@@ -14,7 +14,9 @@ abbrev μ-loop : tie.MeasureT-loop
 μ-loop list w₀ b n k₀ i₀ w k i = length list - i
 
 loop-holds : tie.Need-loop-holds Inv-loop μ-loop
-loop-holds c = (omega arith, listed-begin (c .before .before .args .list .now) (c .before .before .pre .room) (c .before .before .pre .zero))
+loop-holds c =
+    let start = c .before .before in
+    (omega arith, listed-begin (start .args .list .now) (start .pre .room) (start .pre .zero))
 
 mul-place : tie.Need-mul-place Inv-loop μ-loop
 mul-place c = search needs
@@ -23,10 +25,15 @@ shared-slice-read-place : tie.Need-shared-slice-read-place Inv-loop μ-loop
 shared-slice-read-place c = search needs
 
 cast-place : tie.Need-cast-place Inv-loop μ-loop
-cast-place c = omega (arith, c .shared-slice-known2 .given (c .before .before .before .loop .i))
+cast-place c =
+    let at-loop = c .before .before .before in
+    omega (arith, c .shared-slice-known2 .given (at-loop .loop .i))
 
 place-requires : tie.Need-place-requires Inv-loop μ-loop
-place-requires c κs = record { room = c .before .before .before .loop .inv .1 .room; free = filling-free (c .before .before .before .loop .inv .1 .filling) (getD (c .before .before .before .before .before .before .args .list .now) (c .before .before .before .loop .i) 0) }
+place-requires c κs =
+    let at-loop = c .before .before .before in
+    let start = at-loop .before .before .before in
+    record { room = at-loop .loop .inv .1 .room; free = filling-free (at-loop .loop .inv .1 .filling) (getD (start .args .list .now) (at-loop .loop .i) 0) }
 
 add-i : tie.Need-add-i Inv-loop μ-loop
 add-i c = search needs
@@ -35,14 +42,22 @@ loop-less : tie.Need-loop-less Inv-loop μ-loop
 loop-less c = search needs
 
 loop-again : tie.Need-loop-again Inv-loop μ-loop
-loop-again c = (omega arith, listed-step (omega arith) (c .before .before .before .before .before .before .loop .inv .1) (c .before .before .place .ensures))
+loop-again c =
+    let at-place = c .before .before in
+    let at-loop = at-place .before .before .before .before in
+    (omega arith, listed-step (omega arith) (at-loop .loop .inv .1) (at-place .place .ensures))
 
 same-length : tie.Need-same-length Inv-loop μ-loop
-same-length c = c .before .loop .inv .1 .beside .long
+same-length c =
+    let at-loop = c .before in
+    at-loop .loop .inv .1 .beside .long
 
 returns : tie.Need-returns Inv-loop μ-loop
-returns c = let e : c .before .loop .i ≡ length (c .before .before .before .before .args .list .now) = omega arith in
-    listed-all (rw e at (c .before .loop .inv .1))
+returns c =
+    let at-loop = c .before in
+    let start = at-loop .before .before .before in
+    let e : at-loop .loop .i ≡ length (start .args .list .now) = omega arith in
+    listed-all (rw e at (at-loop .loop .inv .1))
 
 pub listed-spec : {M : Type 1} → statement M
 listed-spec =

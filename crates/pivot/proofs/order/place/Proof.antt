@@ -18,7 +18,9 @@ slice-read-if2 : tie.Need-slice-read-if2
 slice-read-if2 c = search needs
 
 returns-2 : tie.Need-returns-2
-returns-2 c = again (c .before .before .if1 .left) (c .if2 .taken)
+returns-2 c =
+    let at-if1 = c .before .before in
+    again (at-if1 .if1 .left) (c .if2 .taken)
 
 add-w : tie.Need-add-w
 add-w c = search needs
@@ -42,22 +44,36 @@ add-w-3 : tie.Need-add-w-3
 add-w-3 c = search needs
 
 add-w-4 : tie.Need-add-w-4
-add-w-4 c = omega (arith, c .before .before .before .pre .free (c .before .before .if1 .left) (c .if2 .left))
+add-w-4 c =
+    let at-if1 = c .before .before in
+    let start = at-if1 .before in
+    omega (arith, start .pre .free (at-if1 .if1 .left) (c .if2 .left))
 
 mul-w-3 : tie.Need-mul-w-3
-mul-w-3 c = omega (arith, c .before .before .before .pre .free (c .before .before .if1 .left) (c .if2 .left))
+mul-w-3 c =
+    let at-if1 = c .before .before in
+    let start = at-if1 .before in
+    omega (arith, start .pre .free (at-if1 .if1 .left) (c .if2 .left))
 
 slice-write-w-2 : tie.Need-slice-write-w-2
-slice-write-w-2 c = rw length-set (omega (arith, c .before .before .before .pre .free (c .before .before .if1 .left) (c .if2 .left)))
+slice-write-w-2 c =
+    let at-if1 = c .before .before in
+    let start = at-if1 .before in
+    rw length-set (omega (arith, start .pre .free (at-if1 .if1 .left) (c .if2 .left)))
 
 add-result : tie.Need-add-result
-add-result c = omega (arith, c .before .before .before .pre .free (c .before .before .if1 .left) (c .if2 .left))
+add-result c =
+    let at-if1 = c .before .before in
+    let start = at-if1 .before in
+    omega (arith, start .pre .free (at-if1 .if1 .left) (c .if2 .left))
 
 same-length : tie.Need-same-length
 same-length c = search needs
 
 returns-3 : tie.Need-returns-3
-returns-3 c = placed (c .before .before .if1 .left) (c .if2 .left)
+returns-3 c =
+    let at-if1 = c .before .before in
+    placed (at-if1 .if1 .left) (c .if2 .left)
 
 pub place-spec : {M : Type 1} → statement M
 place-spec =

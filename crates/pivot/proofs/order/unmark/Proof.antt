@@ -33,15 +33,23 @@ loop-less : tie.Need-loop-less Inv-loop μ-loop
 loop-less c = search needs
 
 loop-again : tie.Need-loop-again Inv-loop μ-loop
-loop-again c = let r = c .before .loop .inv .1 in
-    (omega arith, room-kept (length-set (c .before .loop .w) (c .before .before .args .b + c .before .loop .v) 0) r, clearing-step (omega (arith, r .fits)) (c .before .loop .inv .2))
+loop-again c =
+    let at-loop = c .before in
+    let start = at-loop .before in
+    let r = at-loop .loop .inv .1 in
+    (omega arith, room-kept (length-set (at-loop .loop .w) (start .args .b + at-loop .loop .v) 0) r, clearing-step (omega (arith, r .fits)) (at-loop .loop .inv .2))
 
 same-length : tie.Need-same-length Inv-loop μ-loop
-same-length c = c .before .loop .inv .2 .framed .long
+same-length c =
+    let at-loop = c .before in
+    at-loop .loop .inv .2 .framed .long
 
 returns : tie.Need-returns Inv-loop μ-loop
-returns c = let e : c .before .loop .v ≡ c .before .before .args .n = omega arith in
-    let k = rw e at (c .before .loop .inv .2) in
+returns c =
+    let at-loop = c .before in
+    let start = at-loop .before in
+    let e : at-loop .loop .v ≡ start .args .n = omega arith in
+    let k = rw e at (at-loop .loop .inv .2) in
     record { framed = k .framed; zero = k .zero }
 
 pub unmark-spec : {M : Type 1} → statement M

@@ -16,30 +16,47 @@ abbrev μ-loop : tie.MeasureT-loop
 μ-loop words n v rest u₀ k₀ u k = n - u
 
 loop-holds : tie.Need-loop-holds Inv-loop μ-loop
-loop-holds c = (c .before .pre, refl)
+loop-holds c =
+    let start = c .before in
+    (start .pre, refl)
 
 has-requires : tie.Need-has-requires Inv-loop μ-loop
 has-requires c κs = from-room (c .loop .inv .0)
 
 has-requires-2 : tie.Need-has-requires-2 Inv-loop μ-loop
-has-requires-2 c κs = from-room (c .before .before .loop .inv .0)
+has-requires-2 c κs =
+    let at-loop = c .before .before in
+    from-room (at-loop .loop .inv .0)
 
 sub-k : tie.Need-sub-k Inv-loop μ-loop
-sub-k c = omega (arith, leb-true, c .before .before .has .ensures, c .has2 .ensures)
+sub-k c =
+    let at-has = c .before .before in
+    omega (arith, leb-true, at-has .has .ensures, c .has2 .ensures)
 
 add-u : tie.Need-add-u Inv-loop μ-loop
-add-u c = omega (arith, from-low (c .before .before .before .loop .inv .0))
+add-u c =
+    let at-loop = c .before .before .before in
+    omega (arith, from-low (at-loop .loop .inv .0))
 
 loop-less : tie.Need-loop-less Inv-loop μ-loop
-loop-less c = omega (arith, from-low (c .before .before .before .loop .inv .0))
+loop-less c =
+    let at-loop = c .before .before .before in
+    omega (arith, from-low (at-loop .loop .inv .0))
 
 loop-again : tie.Need-loop-again Inv-loop μ-loop
-loop-again c = let f = c .before .before .before .loop .inv .0 in
-    let h : bit (c .before .before .before .before .before .args .words .now) (c .before .before .before .loop .u) ≤ c .before .before .before .loop .k = omega (arith, leb-true, c .before .before .has .ensures) in
-    rw (c .has2 .ensures) (from-next f h, next-sum f h ∙ c .before .before .before .loop .inv .1)
+loop-again c =
+    let at-has = c .before .before in
+    let at-loop = at-has .before in
+    let start = at-loop .before .before in
+    let f = at-loop .loop .inv .0 in
+    let h : bit (start .args .words .now) (at-loop .loop .u) ≤ at-loop .loop .k = omega (arith, leb-true, at-has .has .ensures) in
+    rw (c .has2 .ensures) (from-next f h, next-sum f h ∙ at-loop .loop .inv .1)
 
 returns : tie.Need-returns Inv-loop μ-loop
-returns c = from-found (c .before .before .loop .inv .0) (omega (arith, leb-false, c .before .has .ensures)) (c .before .before .loop .inv .1)
+returns c =
+    let at-has = c .before in
+    let at-loop = at-has .before in
+    from-found (at-loop .loop .inv .0) (omega (arith, leb-false, at-has .has .ensures)) (at-loop .loop .inv .1)
 
 pub from-spec : {M : Type 1} → statement M
 from-spec =

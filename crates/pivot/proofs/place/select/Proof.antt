@@ -18,50 +18,76 @@ abbrev μ-loop : tie.MeasureT-loop
 μ-loop words n j i₀ rest₀ i rest = n - i * 64
 
 loop-holds : tie.Need-loop-holds Inv-loop μ-loop
-loop-holds c = (from-begin (c .before .pre), omega (arith, none-before (c .before .args .words .now)))
+loop-holds c =
+    let start = c .before in
+    (from-begin (start .pre), omega (arith, none-before (start .args .words .now)))
 
 mul-if1 : tie.Need-mul-if1 Inv-loop μ-loop
 mul-if1 c = omega (arith, from-low (c .loop .inv .0))
 
 shared-slice-read-if1 : tie.Need-shared-slice-read-if1 Inv-loop μ-loop
-shared-slice-read-if1 c = omega (arith, from-room (c .before .loop .inv .0))
+shared-slice-read-if1 c =
+    let at-loop = c .before in
+    omega (arith, from-room (at-loop .loop .inv .0))
 
 cast-if1 : tie.Need-cast-if1 Inv-loop μ-loop
-cast-if1 c = omega (arith, ones-le 64 _ (c .shared-slice-known2 .given (c .before .loop .i) .fits))
+cast-if1 c =
+    let at-loop = c .before in
+    omega (arith, ones-le 64 _ (c .shared-slice-known2 .given (at-loop .loop .i) .fits))
 
 mul-rest : tie.Need-mul-rest Inv-loop μ-loop
-mul-rest c = omega (arith, from-low (c .before .before .loop .inv .0))
+mul-rest c =
+    let at-loop = c .before .before in
+    omega (arith, from-low (at-loop .loop .inv .0))
 
 shared-slice-read-rest : tie.Need-shared-slice-read-rest Inv-loop μ-loop
-shared-slice-read-rest c = omega (arith, from-room (c .before .before .before .loop .inv .0))
+shared-slice-read-rest c =
+    let at-loop = c .before .before .before in
+    omega (arith, from-room (at-loop .loop .inv .0))
 
 cast-rest : tie.Need-cast-rest Inv-loop μ-loop
-cast-rest c = omega (arith, ones-le 64 _ (c .shared-slice-known3 .given (c .before .before .before .loop .i) .fits))
+cast-rest c =
+    let at-loop = c .before .before .before in
+    omega (arith, ones-le 64 _ (c .shared-slice-known3 .given (at-loop .loop .i) .fits))
 
 sub-rest : tie.Need-sub-rest Inv-loop μ-loop
 sub-rest c = omega (arith, leb-true)
 
 add-i : tie.Need-add-i Inv-loop μ-loop
-add-i c = omega (arith, from-low (c .before .before .before .loop .inv .0))
+add-i c =
+    let at-loop = c .before .before .before in
+    omega (arith, from-low (at-loop .loop .inv .0))
 
 loop-less : tie.Need-loop-less Inv-loop μ-loop
-loop-less c = omega (arith, from-low (c .before .before .before .loop .inv .0))
+loop-less c =
+    let at-loop = c .before .before .before in
+    omega (arith, from-low (at-loop .loop .inv .0))
 
 loop-again : tie.Need-loop-again Inv-loop μ-loop
-loop-again c = let f = c .before .before .before .loop .inv .0 in
-    let g = c .shared-slice-known3 .given (c .before .before .before .loop .i) .fits in
-    let h : ones (getD (c .before .before .before .before .before .args .words .now) (c .before .before .before .loop .i) 0) ≤ c .before .before .before .loop .rest = omega (arith, leb-true) in
-    (from-word (c .before .before .before .loop .i) f g h, word-sum (c .before .before .before .loop .i) f g h ∙ c .before .before .before .loop .inv .1)
+loop-again c =
+    let at-loop = c .before .before .before in
+    let start = at-loop .before .before in
+    let f = at-loop .loop .inv .0 in
+    let g = c .shared-slice-known3 .given (at-loop .loop .i) .fits in
+    let h : ones (getD (start .args .words .now) (at-loop .loop .i) 0) ≤ at-loop .loop .rest = omega (arith, leb-true) in
+    (from-word (at-loop .loop .i) f g h, word-sum (at-loop .loop .i) f g h ∙ at-loop .loop .inv .1)
 
 mul-from : tie.Need-mul-from Inv-loop μ-loop
-mul-from c = omega (arith, from-low (c .before .before .loop .inv .0))
+mul-from c =
+    let at-loop = c .before .before in
+    omega (arith, from-low (at-loop .loop .inv .0))
 
 from-requires : tie.Need-from-requires Inv-loop μ-loop
-from-requires c κs = c .before .before .loop .inv .0
+from-requires c κs =
+    let at-loop = c .before .before in
+    at-loop .loop .inv .0
 
 returns : tie.Need-returns Inv-loop μ-loop
-returns c = let e = c .from .ensures in
-    bit-member (c .before .before .before .before .before .args .words .now) (c .before .before .before .before .before .args .n) (c .from .result) (c .before .before .before .before .before .args .j) (e .low) (e .is) (e .before ∙ c .before .before .before .loop .inv .1) (c .before .before .before .before .before .pre .low)
+returns c =
+    let at-loop = c .before .before .before in
+    let start = at-loop .before .before in
+    let e = c .from .ensures in
+    bit-member (start .args .words .now) (start .args .n) (c .from .result) (start .args .j) (e .low) (e .is) (e .before ∙ at-loop .loop .inv .1) (start .pre .low)
 
 pub select-spec : {M : Type 1} → statement M
 select-spec =
