@@ -8,6 +8,9 @@ use Rattle.graph.specs.Certificate.{distOf, distances, climbed, rankOf, ranks, 
 use Rattle.graph.specs.Paths.{nearer, walk, pathAnswer}
 use Rattle.graph.specs.Summary.{summary, sharing}
 use Rattle.graph.specs.Refusal.{given, _or_, outside, tableRefusal}
+use Rattle.lines.specs.Pieces.{before, split}
+use Rattle.lines.specs.Numbers.{digitsOnly, valueFrom, numberOf, filled, words, andThen, numbersOf, content}
+use Rattle.text.specs.Market.{same, isComment, hasNone, passedOver, passOver, sizeRefusal, sized, sizeOf, entries as entryLines, asTable, atSize, fromSize, fromFirst, market}
 use Rattle.facts.specs.Facts.{Facts, Runs}
 
 pub facts : Facts
@@ -31,7 +34,7 @@ facts =
     }
 
 pub runs : Runs
-unfolding within round table least some-below many most certificate ranks rankOf climbed distances distOf entries entry check1 check2 check3 check5 fault verdict summary sharing tableRefusal given _or_ outside
+unfolding within round table least some-below many most certificate ranks rankOf climbed distances distOf entries entry check1 check2 check3 check5 fault verdict summary sharing tableRefusal given _or_ outside before split digitsOnly valueFrom numberOf filled words andThen numbersOf content same isComment hasNone passedOver passOver sizeRefusal sized sizeOf entryLines asTable atSize fromSize fromFirst market
 runs =
     record {
       summary-of-T = refl;
@@ -40,4 +43,6 @@ runs =
       ranks-zero = refl;
       most-pass = refl;
       one-more = refl;
+      program-passes = refl;
+      program-refuses = refl;
     }

@@ -2,7 +2,7 @@
 use Prim.Native.Nat.{ℕ}
 use mathlib.Core.Path.{_≡_}
 use mathlib.Core.Bool.{Bool}
-use mathlib.Core.List.{List, [], _∷_}
+use mathlib.Core.List.{List, [], _∷_, _++_}
 use lib.Dec.{ltb, eqb}
 use Rattle.graph.specs.Graph.{Graph, graph, rev}
 use Rattle.graph.specs.Numbers.{mark}
@@ -14,6 +14,8 @@ use Rattle.graph.specs.Paths.{pathAnswer, found, refused}
 use Rattle.graph.specs.Pivot.{draw}
 use Rattle.graph.specs.Summary.{Summary, summary}
 use Rattle.graph.specs.Refusal.{tableRefusal}
+use Rattle.text.specs.Market.{Table, Result, market, banner, done as read, refused as unread}
+use Rattle.entry.specs.LabelText.{entryLimits}
 
 -- 0→1, 1→2, 2→0, 2→3, 3→4, 4→3, 5→5
 abbrev pub sourcesT : List ℕ
@@ -67,6 +69,10 @@ abbrev pub reranked : Columns → List ℕ → Columns
 reranked c r =
     record { label = c .label; rank = r; inEdge = c .inEdge; inDist = c .inDist; outEdge = c .outEdge; outDist = c .outDist }
 
+-- what the program reads in a text of a first line and a size line
+abbrev pub readingOf : List ℕ → Result Table
+readingOf sizeLine = market entryLimits (banner ++ (10 ∷ sizeLine))
+
 -- what document 01 only asks to be run, and what the definitions give for it
 pub record Runs : Type 0 where
   pub summary-of-T : summary 6 labelsT ≡ record { own = 3; rings = 2; largest = 3 }
@@ -75,3 +81,6 @@ pub record Runs : Type 0 where
   pub ranks-zero : verdict T (reranked columnsT (0 ∷ 0 ∷ 0 ∷ 0 ∷ 0 ∷ 0 ∷ [])) ≡ failed 5 3
   pub most-pass : tableRefusal 65536 [] [] ≡ 0
   pub one-more : tableRefusal 65537 [] [] ≡ 1
+  -- the size lines `512 512 0` and `513 513 0`
+  pub program-passes : readingOf (53 ∷ 49 ∷ 50 ∷ 32 ∷ 53 ∷ 49 ∷ 50 ∷ 32 ∷ 48 ∷ []) ≡ read (record { n = 512; edges = [] })
+  pub program-refuses : readingOf (53 ∷ 49 ∷ 51 ∷ 32 ∷ 53 ∷ 49 ∷ 51 ∷ 32 ∷ 48 ∷ []) ≡ unread 1

@@ -47,7 +47,7 @@ fn verdicts(
     );
     let label = [0, 0, 0, 3, 3, 3];
     check(
-        b"vertex 5 labelled 3, check and vertex",
+        b"columns of T with vertex 5 labelled 3, check and vertex",
         &label,
         rank,
         in_edge,
@@ -57,7 +57,7 @@ fn verdicts(
     );
     let flat = [0, 0, 0, 0, 0, 0];
     check(
-        b"ranks of 3 and 4 zero, check and edge",
+        b"columns of T with ranks of 3 and 4 zero, check and edge",
         &t::labels(),
         &flat,
         in_edge,
@@ -67,30 +67,68 @@ fn verdicts(
     );
 }
 
+// The writer on T's labels. The number returned.
+fn write(
+    rank: &mut [u32],
+    in_edge: &mut [u32],
+    in_distance: &mut [u32],
+    out_edge: &mut [u32],
+    out_distance: &mut [u32],
+) -> u32 {
+    let mut numbers = [9u32; 102];
+    let mut words = [9u64; 6];
+    certificate::write(
+        6,
+        &t::sources(),
+        &t::targets(),
+        &t::labels(),
+        rank,
+        in_edge,
+        in_distance,
+        out_edge,
+        out_distance,
+        &mut numbers,
+        &mut words,
+    )
+}
+
 pub fn run() {
     let mut rank = [9u32; 6];
     let mut in_edge = [9u32; 6];
     let mut in_distance = [9u32; 6];
     let mut out_edge = [9u32; 6];
     let mut out_distance = [9u32; 6];
-    let mut numbers = [9u32; 102];
-    let mut words = [9u64; 6];
-    let k = certificate::write(
-        6,
-        &t::sources(),
-        &t::targets(),
-        &t::labels(),
+    let k = write(
         &mut rank,
         &mut in_edge,
         &mut in_distance,
         &mut out_edge,
         &mut out_distance,
-        &mut numbers,
-        &mut words,
     );
-    out::value(b"certificate of T", k as u64);
+    if k != 0 {
+        return out::refused(b"P4 and P5 columns of T", k);
+    }
     out::row(b"P4 ranks of T", &rank);
     out::row(b"P5 in-distances of T", &in_distance);
     out::row(b"P5 out-distances of T", &out_distance);
+}
+
+// The checker on what the writer wrote, and on two wrong columns beside it.
+pub fn judge() {
+    let mut rank = [9u32; 6];
+    let mut in_edge = [9u32; 6];
+    let mut in_distance = [9u32; 6];
+    let mut out_edge = [9u32; 6];
+    let mut out_distance = [9u32; 6];
+    let k = write(
+        &mut rank,
+        &mut in_edge,
+        &mut in_distance,
+        &mut out_edge,
+        &mut out_distance,
+    );
+    if k != 0 {
+        return out::refused(b"columns of T", k);
+    }
     verdicts(&rank, &in_edge, &in_distance, &out_edge, &out_distance);
 }

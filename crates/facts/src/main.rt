@@ -1,18 +1,23 @@
-// Runs the functions on the facts of document 01 and writes what they give.
+// Runs the functions on the facts of document 01 and writes what they give: P1 to P11, then what is only run.
 mod columns;
+mod components;
 mod draws;
 mod out;
 mod searches;
 mod summaries;
 mod t;
 mod tables;
+mod texts;
 mod walks;
 
 fn main() {
-    tables::run();
+    components::run();
     columns::run();
     searches::run();
     walks::run();
     draws::run();
     summaries::run();
+    columns::judge();
+    tables::run();
+    texts::run();
 }

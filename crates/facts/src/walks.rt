@@ -18,7 +18,7 @@ fn path(name: &[u8], u: usize, v: usize, room: &mut [u32]) {
     ) {
         Answer::Done { length } => {
             out::value(name, length as u64);
-            out::row(b"the room after it", room);
+            out::row(b"P9 the room after it", room);
         }
         Answer::Refused(k) => out::refused(name, k),
     }

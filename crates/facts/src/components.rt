@@ -1,0 +1,36 @@
+// P1 to P3: the labels that the decomposer gives.
+use crate::out;
+use crate::t;
+use decompose::finish::Answer;
+
+fn decompose_table(name: &[u8], n: usize, sources: &[u32], targets: &[u32], label: &mut [u32]) {
+    let mut numbers = [9u32; 102];
+    let mut words = [9u64; 6];
+    match decompose::plain::plain(n, sources, targets, label, &mut numbers, &mut words) {
+        Answer::Done { draws: _ } => out::row(name, label),
+        Answer::Refused(k) => out::refused(name, k),
+    }
+}
+
+pub fn run() {
+    let sources = t::sources();
+    let targets = t::targets();
+    let mut of_t = [9u32; 6];
+    decompose_table(b"P1 labels of T", 6, &sources, &targets, &mut of_t);
+    let mut of_none = [9u32; 0];
+    decompose_table(
+        b"P2 labels of n = 0",
+        0,
+        &sources[..0],
+        &targets[..0],
+        &mut of_none,
+    );
+    let mut of_one = [9u32; 1];
+    decompose_table(
+        b"P3 labels of n = 1, no edge",
+        1,
+        &sources[..0],
+        &targets[..0],
+        &mut of_one,
+    );
+}
