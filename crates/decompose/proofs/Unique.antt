@@ -11,9 +11,11 @@ use Rattle.graph.proofs.Memory.{zeroed-one}
 use Rattle.waiting.specs.declared.Part.{Part}
 use Rattle.waiting.specs.Records.{none}
 use Rattle.pivot.specs.declared.chooser.Chooser.{Chooser}
+use Rattle.pivot.proofs.Unique.{chooser-one}
 use Rattle.decompose.specs.declared.finish.Answer.{Answer}
 use Rattle.decompose.specs.declared.finish.Answer.the-variants.{Done, Refused}
 use Rattle.decompose.specs.Promise.{Call, After, after, Emptied, Finished, Untouched, Promise}
+use Rattle.decompose.specs.Plain.{Plainly}
 
 -- the draws of an answer
 abbrev pub drawsOf : Answer → ℕ
@@ -25,12 +27,6 @@ emptied-one {k} {ys} {a} {b} x y = ext-getD none a b (x .long ∙ sym (y .long))
   | yes h ↦ x .front j h ∙ sym (y .front j h)
   | no h ↦ x .rest j (omega arith) ∙ sym (y .rest j (omega arith))
 ])
-
-chooser-one : {a b : Chooser} → a .kind ≡ b .kind → a .state ≡ b .state → a ≡ b
-chooser-one {a} {b} p q = ap (λ (k : ℕ). mk k (a .state)) p ∙ ap (mk (b .kind)) q
-  where
-    mk : ℕ → ℕ → Chooser
-    mk k s = record { kind = k; state = s }
 
 after-one : {a b : After} → a .chooser ≡ b .chooser → a .waiting ≡ b .waiting → a .label ≡ b .label → a .numbers ≡ b .numbers → a .words ≡ b .words → a ≡ b
 after-one {a} {b} p q r s t =
@@ -61,3 +57,10 @@ module _ {c : Call} {a b : After} where
   decompose-still (Done d) (Refused k) x y s = absurd (y .gives .refused (y .refusal ∙ sym (x .refusal)))
   decompose-still (Refused k) (Done d) x y s = absurd (x .gives .refused (x .refusal ∙ sym (y .refusal)))
   decompose-still (Refused k) (Refused l) x y s = decompose-one (Refused k) (Refused l) x y refl
+
+-- the decomposer with plain parameters: its kind is 0
+pub plain-one : {n : ℕ} {src tgt lab num wor lab₁ num₁ wor₁ lab₂ num₂ wor₂ : List ℕ} (r q : Answer)
+    → Plainly n src tgt lab num wor lab₁ num₁ wor₁ r → Plainly n src tgt lab num wor lab₂ num₂ wor₂ q → (r ≡ q) × ((lab₁ ≡ lab₂) × ((num₁ ≡ num₂) × (wor₁ ≡ wor₂)))
+plain-one r q x y =
+    let s = decompose-still r q (x .promise) (y .promise) (λ (e : 0 ≡ 1). omega (arith, e)) in
+    (s .0, (ap (λ (a : After). a .label) (s .1), (ap (λ (a : After). a .numbers) (s .1), ap (λ (a : After). a .words) (s .1))))

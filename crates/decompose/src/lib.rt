@@ -4,12 +4,12 @@ use finish::Answer;
 use pivot::chooser::Chooser;
 use waiting::Part;
 
-pub mod begin;
+mod begin;
 pub mod finish;
-pub mod machine;
+mod machine;
 pub mod plain;
-pub mod step;
-pub mod turns;
+mod step;
+mod turns;
 
 // The labels by method 0 or 1; parts wait on the lent list, pivots are chosen by the lent chooser.
 pub fn decompose(

@@ -3,3 +3,4 @@ pub mod Members
 pub mod Places
 pub mod Again
 pub mod Lent
+pub mod Unique

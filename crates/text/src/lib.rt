@@ -5,8 +5,8 @@ ghost use Rattle.graph.specs.Limits.{mostVertices, mostEdges};
 ghost use Rattle.text.specs.Steps.{limits, JudgeSaid};
 ghost use Rattle.text.specs.Promise.{Call, Promise};
 
-pub mod entries;
-pub mod header;
+mod entries;
+mod header;
 
 use crate::header::Head;
 use graph::limits;
@@ -23,7 +23,7 @@ fn smaller(a: usize, b: usize) -> usize
 }
 
 // The whole text: its header, if its entries are right.
-pub fn judge(text: &[u8], most_vertices: usize, most_edges: usize, room: usize) -> Head
+fn judge(text: &[u8], most_vertices: usize, most_edges: usize, room: usize) -> Head
     ensures { λ r. ⌜ JudgeSaid (limits «most_vertices» «most_edges» room) (now (text .entry)) r ⌝ }
 {
     let head = header::head_of(text, most_vertices, most_edges, room);
