@@ -1,0 +1,28 @@
+// The families of tables that are measured, each made for a number of vertices.
+#pragma once
+#include <cstddef>
+#include <cstdint>
+#include <string>
+#include <vector>
+
+struct Table {
+    uint32_t n;
+    std::vector<uint32_t> sources, targets;
+
+    explicit Table(uint32_t vertices) : n(vertices) {}
+    size_t m() const { return sources.size(); }
+    void edge(uint32_t source, uint32_t target) {
+        sources.push_back(source);
+        targets.push_back(target);
+    }
+};
+
+struct Family {
+    const char *name;
+    Table (*make)(uint32_t n);
+};
+
+extern const std::vector<Family> families;
+
+// The table as a Matrix Market text.
+std::string text_of(const Table &table);
