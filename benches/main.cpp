@@ -10,6 +10,7 @@
 #include <functional>
 #include <memory>
 #include <set>
+#include <utility>
 
 namespace {
 
@@ -45,7 +46,7 @@ struct Lent {
     std::vector<tinoweala_part> waiting;
     std::vector<uint32_t> right, label, rank, in_edge, in_distance, out_edge, out_distance, path, edges, summary;
     std::string text;
-    uint32_t far = 0;
+    uint32_t far = 0, verdict = 9;
 
     explicit Lent(const Table &t)
         : table(t), room(t), words(tinoweala_words(t.n)), starts(tinoweala_set_words(t.n), 1), all(starts.size(), ~uint64_t(0)), set(starts.size()), waiting(t.n), right(t.n), label(t.n),
@@ -69,14 +70,23 @@ struct Lent {
             n, table.sources.data(), table.m(), table.targets.data(), table.m(), right.data(), n, rank.data(), n, in_edge.data(), n, in_distance.data(), n, out_edge.data(), n,
             out_distance.data(), n, room.numbers.data(), room.numbers.size(), words.data(), words.size());
     }
-    uint32_t check_certificate() {
+    void check_certificate() {
         const size_t n = table.n;
-        uint32_t check = 9;
-        size_t place = 0;
-        const uint32_t no = tinoweala_check_certificate(
-            n, table.sources.data(), table.m(), table.targets.data(), table.m(), right.data(), n, rank.data(), n, in_edge.data(), n, in_distance.data(), n, out_edge.data(), n,
-            out_distance.data(), n, &check, &place);
-        return no ? no : check;
+        size_t place;
+        if (tinoweala_check_certificate(
+                n, table.sources.data(), table.m(), table.targets.data(), table.m(), right.data(), n, rank.data(), n, in_edge.data(), n, in_distance.data(), n, out_edge.data(), n,
+                out_distance.data(), n, &verdict, &place))
+            fail("the checker refuses");
+    }
+    bool accepted() {
+        verdict = 9;
+        check_certificate();
+        return verdict == 0;
+    }
+    // Whether the checker accepted. The in-edges are emptied: the writer, which runs next, has to write them.
+    bool spoil() {
+        std::fill(in_edge.begin(), in_edge.end(), 0);
+        return std::exchange(verdict, 9) == 0;
     }
     Reached search() {
         Reached found = {0, 0};
@@ -127,7 +137,6 @@ std::function<bool()> same(std::vector<Number> &column, const std::vector<Number
 
 Contenders labels(Lent &lent) {
     const auto right = same(lent.label, lent.right);
-    const auto accepted = [&lent] { return lent.check_certificate() == 0; };
     Contenders contenders = {{"tarjan", [&lent] { plain_tarjan(lent.table, lent.room, lent.label.data()); }, right}};
     for (uint32_t method = 0; method < 2; method++)
         for (uint32_t kind = 0; kind < 2; kind++)
@@ -138,8 +147,8 @@ Contenders labels(Lent &lent) {
 #ifdef WITH_igraph
     contenders.push_back({"igraph", [&lent] { igraph_labels(lent.table, lent.label.data()); }, right});
 #endif
-    contenders.push_back({"certificate", [&lent] { lent.write_certificate(); }, accepted});
-    contenders.push_back({"checker", [&lent] { lent.check_certificate(); }, accepted});
+    contenders.push_back({"checker", [&lent] { lent.check_certificate(); }, [&lent] { return lent.spoil(); }});
+    contenders.push_back({"certificate", [&lent] { lent.write_certificate(); }, [&lent] { return lent.accepted(); }});
     return contenders;
 }
 
