@@ -54,7 +54,7 @@ module _ (n : ℕ) (s : Machine) where
 
   pub goes-stop : n ≤ s .cleared → s .pending ≤ s .given → s .count ≡ 0 → goes n s ≡ 0
   unfolding goes
-  goes-stop a b c = rw (le-ltb (s .cleared) n a, le-ltb (s .given) (s .pending) b, le-ltb 0 (s .count) (omega arith))
+  goes-stop a b c = rw (le-ltb (s .cleared) n a, le-ltb (s .given) (s .pending) b, c)
 
   goes-hand : n ≤ s .cleared → s .given < s .pending → goes n s ≡ 1
   unfolding goes
