@@ -10,11 +10,11 @@ use mathlib.Core.List.{List}
 use lib.ListN.{length, getD}
 use lib.Dec.{T, leb, ltb, eqb, leb→le}
 use borrow.Author.Tests.{ltb-false, eqb-true, eqb-false, le-leb, ne-eqb, not-false}
-use Rattle.graph.specs.Limits.{mostVertices, mostEdges}
+use Rattle.graph.specs.Limits.{mostVertices, mostEdges, InLimits, Enough}
 use Rattle.graph.specs.Graph.{Graph, graph, Valid}
 use Rattle.graph.specs.Numbers.{some-below}
-use Rattle.graph.specs.Refusal.{given, _or_, outside, tableRefusal}
-use Rattle.graph.proofs.Tests.{some-below-iff}
+use Rattle.graph.specs.Refusal.{given, _or_, outside, tableRefusal, lacking}
+use Rattle.graph.proofs.Tests.{T-true, no-T, some-below-iff}
 
 -- a number that is not 0 decides, and 0 is passed over
 pub or-stop : (a b : ℕ) → (a ≡ 0 → ⊥) → a or b ≡ a
@@ -37,12 +37,14 @@ unfolding given
 given-none k true h e = absurd (h e)
 given-none k false h e = refl
 
-T-true : (b : Bool) → T b → b ≡ true
-T-true true t = refl
+-- a number that is given is one of those that may be
+pub given-most : (k : ℕ) (t : Bool) (c : ℕ) → k ≤ c → given k t ≤ c
+unfolding given
+given-most k true c h = h
+given-most k false c h = omega arith
 
-no-T : (b : Bool) → (T b → ⊥) → b ≡ false
-no-T true h = absurd (h tt)
-no-T false h = refl
+pub or-most : (a b c : ℕ) → a ≤ c → b ≤ c → (a or b) ≤ c
+or-most a b c h l = elim (ℕ-discrete a 0) as (λ _. (a or b) ≤ c) [ yes q ↦ rw (or-pass a b q) l | no q ↦ rw (or-stop a b q) h ]
 
 true-T : (b : Bool) → b ≡ true → T b
 true-T true e = tt
@@ -93,5 +95,17 @@ module _ (n : ℕ) (sources targets : List ℕ) where
         targets-low = outside-none n targets t;
       }
 
+  pub table-limits : tableRefusal n sources targets ≡ 0 → InLimits n (length sources)
+  table-limits e = let p = table-passed e in record { small = p .small; few = p .few }
+
+  pub table-most : tableRefusal n sources targets ≤ 4
+  unfolding tableRefusal
+  table-most = or-most _ _ 4 (given-most 1 _ 4 (omega arith)) (or-most _ _ 4 (given-most 2 _ 4 (omega arith)) (or-most _ _ 4 (given-most 3 _ 4 (omega arith)) (given-most 4 _ 4 (omega arith))))
+
   pub passed-valid : Passed n sources targets → Valid (graph n sources targets)
   passed-valid p = record { same = sym (p .even); from-low = p .sources-low; to-low = λ e l. p .targets-low e (omega (arith, p .even)) }
+
+-- memory that is not lacking
+pub not-lacking : (n m x y : ℕ) → lacking n m x y ≡ false → Enough n m x y
+unfolding lacking
+not-lacking n m x y e = let (p, q) = or-left-none _ _ e in record { numbers = ltb-false x _ p; words = ltb-false y _ q }

@@ -1,21 +1,26 @@
 -- The size of a set: the ones of its words are the sum of its bits, and the number of its vertices.
 use mathlib.Core.Path.{_≡_, sym, ap, ap₂, _∙_}
-use mathlib.Core.Bool.{cond}
+use mathlib.Core.Bool.{false, cond}
 use mathlib.Core.List.{List}
 use Prim.Native.Nat.{ℕ, zero, suc, _<_, _≤_, _+_, _-_, _*_, _/_, _%_, _^_}
 use native.Mathlib.Omega.{arith}
 use native.Mathlib.Nat.{div-one, pow-suc}
 use native.Mathlib.Decide.{ℕ-discrete}
-use lib.ListN.{getD}
+use lib.ListN.{length, getD}
 use lib.Arith.{lt-one}
 use lib.Count.{ones, ones-step}
 use lib.Dec.{eqb}
-use borrow.Author.Tests.{lt-ltb, ne-eqb}
+use borrow.Author.Tests.{lt-ltb, ne-eqb, eqb-true, not-false}
+use Rattle.graph.specs.Limits.{wordsOf}
 use Rattle.graph.specs.Numbers.{tally, many}
 use Rattle.graph.specs.Sets.{bit, members}
 use Rattle.graph.proofs.Sums.{tally-ext, tally-front, tally-add, tally-none, many-tally}
+use Rattle.sets.specs.Sizes.{ill-sized}
 use Rattle.sets.proofs.Digits.{half-at}
 use Rattle.sets.proofs.Store.{bit-lt}
+
+pub sized : (n : ℕ) (ws : List ℕ) → ill-sized n ws ≡ false → length ws ≡ wordsOf n
+sized n ws e = eqb-true (length ws) (wordsOf n) (not-false (eqb (length ws) (wordsOf n)) e)
 
 -- the ones of a word of k digits are the sum of its digits
 ones-tally : (k x : ℕ) → x < 2 ^ k → ones x ≡ tally (λ j. x / 2 ^ j % 2) k

@@ -4,13 +4,14 @@ use mathlib.Core.List.{List}
 use Prim.Native.Nat.{ℕ, _<_, _≤_, _-_, _*_, _/_, _%_, _^_}
 use native.Mathlib.Omega.{arith}
 use native.Mathlib.Nat.{one-mul}
-use native.Mathlib.Decide.{ℕ-discrete}
+use native.Mathlib.Decide.{ℕ-discrete, decLt}
 use lib.ListN.{length, getD, set, length-set, List·getD-eq-default}
 use lib.Seq.{getD-set-same, getD-set-other}
 use lib.Bits.{bitAnd, bitOr}
 use lib.Pow.{pow-lt}
 use Rattle.graph.specs.Limits.{wordsOf}
 use Rattle.graph.specs.Sets.{bit}
+use Rattle.graph.specs.Memory.{Zeroed}
 use Rattle.sets.specs.Changes.{Added, Removed, Clipped}
 use Rattle.sets.proofs.Digits.{or-at, and-at, one-at, one-else, not-at, shifted, small-at, mask-low, mask-high}
 
@@ -18,10 +19,26 @@ pub bit-lt : (w : List ℕ) (v : ℕ) → bit w v < 2
 unfolding bit
 bit-lt w v = omega arith
 
+-- two lists of words with the same words below wordsOf n have the same vertices
+pub bit-same : (n : ℕ) (ws ws' : List ℕ) → ((j : ℕ) → j < wordsOf n → getD ws' j 0 ≡ getD ws j 0) → (v : ℕ) → v < n → bit ws' v ≡ bit ws v
+unfolding bit
+bit-same n ws ws' s v l = rw (s (v / 64) (omega arith)) refl
+
+-- a word that is zero has no bit
+pub zero-bit : (w : List ℕ) (v : ℕ) → getD w (v / 64) 0 ≡ 0 → bit w v ≡ 0
+unfolding bit
+zero-bit w v e = ap (λ (x : ℕ). x / 2 ^ (v % 64) % 2) e ∙ small-at 0 0 (v % 64) (omega arith) (omega arith)
+
 -- past the words there is no bit
 pub bit-past : (w : List ℕ) (v : ℕ) → length w * 64 ≤ v → bit w v ≡ 0
-unfolding bit
-bit-past w v h = ap (λ (x : ℕ). x / 2 ^ (v % 64) % 2) (List·getD-eq-default w 0 (omega arith)) ∙ small-at 0 0 (v % 64) (omega arith) (omega arith)
+bit-past w v h = zero-bit w v (List·getD-eq-default w 0 (omega arith))
+
+-- a set whose words are zero has no bit
+pub empty-bit : (k : ℕ) (r r' : List ℕ) → length r ≤ k → Zeroed k r r' → (v : ℕ) → bit r' v ≡ 0
+empty-bit k r r' l z v = elim (decLt (v / 64) k) as (λ _. bit r' v ≡ 0) [
+  | yes h ↦ zero-bit r' v (z .front (v / 64) h)
+  | no h ↦ bit-past r' v (omega (arith, z .long))
+]
 
 module _ (w : List ℕ) (i x : ℕ) where
   store-in : i < length w → (u : ℕ) → u / 64 ≡ i → bit (set w i x) u ≡ x / 2 ^ (u % 64) % 2
