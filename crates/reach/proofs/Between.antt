@@ -1,7 +1,7 @@
 -- Between sets and colours, step by step.
-use Prim.Native.Nat.{ℕ, _≤_, _<_, _+_, _/_, _^_, _%_, min}
+use Prim.Native.Nat.{ℕ, _<_, _+_, min}
 use native.Mathlib.Omega.{arith}
-use native.Mathlib.Decide.{ℕ-discrete, decLt}
+use native.Mathlib.Decide.{ℕ-discrete}
 use mathlib.Core.Path.{_≡_, refl, sym, ap, _∙_}
 use mathlib.Core.Logic.{_⊎_, inl, inr}
 use mathlib.Core.List.{List}
@@ -10,8 +10,7 @@ use lib.Seq.{getD-set-same, getD-set-other}
 use Rattle.graph.specs.Sets.{bit}
 use Rattle.graph.specs.Memory.{Zeroed}
 use Rattle.sets.specs.Changes.{Added, Joined, Shared, Clipped}
-use Rattle.sets.proofs.Digits.{small-at}
-use Rattle.sets.proofs.Store.{bit-past}
+use Rattle.sets.proofs.Store.{empty-bit}
 use Rattle.reach.specs.Steps.{Coloured, ChooseAsk, Chosen, Gathered}
 
 -- the first i vertices are coloured
@@ -31,14 +30,6 @@ module _ (b : ℕ) (permitted w : List ℕ) where
       high = λ j h. getD-set-other w' (b + i) j y 0 (omega arith) ∙ z .frame .high j (omega arith);
     };
   }
-
--- a set whose words are zero has no bit
-empty-bit : (k : ℕ) (r r' : List ℕ) → length r ≤ k → Zeroed k r r' → (v : ℕ) → bit r' v ≡ 0
-unfolding bit
-empty-bit k r r' l z v = elim (decLt (v / 64) k) as (λ _. bit r' v ≡ 0) [
-  | yes h ↦ ap (λ (x : ℕ). x / 2 ^ (v % 64) % 2) (z .front (v / 64) h) ∙ small-at 0 0 (v % 64) (omega arith) (omega arith)
-  | no h ↦ bit-past r' v (omega (arith, z .long))
-]
 
 -- the set is emptied, the starts are joined to it, what is permitted is kept, and the bits at n and above are taken off
 pub chosen : (n : ℕ) (starts permitted r r₁ r₂ r₃ r₄ : List ℕ) → ChooseAsk n starts permitted r → Zeroed (length starts) r r₁ → Joined r₁ starts r₂ → Shared r₂ permitted r₃ → Clipped n r₃ r₄

@@ -6,22 +6,17 @@ use mathlib.Core.Path.{_≡_, refl, sym, _∙_}
 use mathlib.Core.Bool.{Bool, true, false}
 use mathlib.Core.List.{List}
 use lib.ListN.{length}
-use lib.Dec.{eqb}
-use borrow.Author.Tests.{ltb-false, eqb-true, not-false}
-use Rattle.graph.specs.Limits.{wordsOf, numbersNeeded, wordsNeeded}
+use Rattle.graph.specs.Limits.{wordsOf, numbersNeeded, Enough}
 use Rattle.graph.specs.Numbers.{tally, many}
 use Rattle.graph.specs.Graph.{graph, edges}
 use Rattle.graph.specs.Sets.{bit, members}
-use Rattle.graph.specs.Memory.{Zeroed, Framed}
-use Rattle.graph.proofs.Refusals.{or-none, or-left-none, given-none, Passed, table-passed, passed-valid}
+use Rattle.graph.specs.Memory.{Zeroed, Framed, ClearAsk, Cleared}
+use Rattle.graph.proofs.Memory.{zeroed-after}
+use Rattle.graph.proofs.Refusals.{or-none, or-left-none, given-none, not-lacking, Passed, table-passed, passed-valid}
 use Rattle.graph.proofs.Chains.{valid-rev}
-use Rattle.sets.proofs.Sizes.{size-below, size-many}
-use Rattle.reach.specs.Search.{Call, ill-sized, searchRefusal, tableOf, Finished}
+use Rattle.sets.proofs.Sizes.{sized, size-below, size-many}
+use Rattle.reach.specs.Search.{Call, searchRefusal, tableOf, Finished}
 use Rattle.reach.specs.Steps.{RunAsk, Found}
-
--- a set that is not ill-sized
-sized : (n : ℕ) (ws : List ℕ) → ill-sized n ws ≡ false → length ws ≡ wordsOf n
-sized n ws e = eqb-true (length ws) (wordsOf n) (not-false (eqb (length ws) (wordsOf n)) e)
 
 -- what a call has that is not refused
 pub record Accepted (c : Call) : Type 0 where
@@ -29,8 +24,7 @@ pub record Accepted (c : Call) : Type 0 where
   pub starts : length (c .starts) ≡ wordsOf (c .n)
   pub permitted : length (c .permitted) ≡ wordsOf (c .n)
   pub reached : length (c .reached) ≡ wordsOf (c .n)
-  pub numbers : numbersNeeded (c .n) (length (c .sources)) ≤ length (c .numbers)
-  pub words : wordsNeeded (c .n) ≤ length (c .words)
+  pub memory : Enough (c .n) (length (c .sources)) (length (c .numbers)) (length (c .words))
 
 module _ (c : Call) (e : searchRefusal c ≡ 0) where
   pub accepted : Accepted c
@@ -40,14 +34,12 @@ module _ (c : Call) (e : searchRefusal c ≡ 0) where
       let (e2, e3) = or-none _ _ r1 in
       let (s1, r) = or-left-none _ _ (given-none 5 _ (suc-ne-zero 4) e2) in
       let (s, p) = or-left-none _ _ s1 in
-      let (m, w) = or-left-none _ _ (given-none 6 _ (suc-ne-zero 5) e3) in
       record {
         table = table-passed (c .n) (c .sources) (c .targets) e1;
         starts = sized (c .n) (c .starts) s;
         permitted = sized (c .n) (c .permitted) p;
         reached = sized (c .n) (c .reached) r;
-        numbers = ltb-false _ _ m;
-        words = ltb-false _ _ w;
+        memory = not-lacking (c .n) (length (c .sources)) (length (c .numbers)) (length (c .words)) (given-none 6 _ (suc-ne-zero 5) e3);
       }
 
   pub run-ask : RunAsk (graph (c .n) (c .sources) (c .targets)) (c .starts) (c .permitted) (c .numbers) (c .reached)
@@ -55,8 +47,14 @@ module _ (c : Call) (e : searchRefusal c ≡ 0) where
     valid = passed-valid (c .n) (c .sources) (c .targets) (a .table);
     small = a .table .small;
     few = a .table .few;
-    room = omega (arith, a .numbers);
+    room = omega (arith, a .memory .numbers);
     sets = record { starts-long = a .starts; permitted-long = a .permitted; set-long = a .reached };
+  }
+
+  pub clear-ask : (w : List ℕ) → length w ≡ length (c .numbers) → ClearAsk (c .n) (length (c .sources)) w (c .words)
+  clear-ask w q = let a = accepted in record {
+    limits = record { small = a .table .small; few = a .table .few };
+    enough = record { numbers = omega (arith, a .memory .numbers); words = a .memory .words };
   }
 
 -- backward, the columns change places
@@ -74,28 +72,28 @@ module _ (c : Call) (e : searchRefusal c ≡ 0) (w₁ r w ws : List ℕ) (k seen
   vertices l z q = q ∙ size-below r (c .n) (length r * 64) (omega (arith, accepted c e .reached)) z ∙ size-many r (c .n)
 
   zeroed : (m : ℕ) → m ≡ length (c .sources) → Framed 0 (3 * c .n + 1 + m) (c .numbers) w₁ → Zeroed (numbersNeeded (c .n) (length (c .sources))) w₁ w → Zeroed (numbersNeeded (c .n) (length (c .sources))) (c .numbers) w
-  zeroed m q f z = record { long = z .long ∙ f .long; front = z .front; rest = λ j l. z .rest j l ∙ f .high j (omega arith) }
+  zeroed m q f z = zeroed-after (f .long) (λ j l. f .high j (omega arith)) z
 
-  -- the search found the set, the set was measured, and the working memory zeroed
+  -- the search found the set, the set was measured, and the working memory cleared
   pub finished : (backward : Bool) → Found (tableOf c backward) (c .starts) (c .permitted) (c .numbers) (c .reached) w₁ r seen → k ≡ tally (bit r) (length r * 64)
-      → Zeroed (numbersNeeded (c .n) (length (c .sources))) w₁ w → Zeroed (wordsNeeded (c .n)) (c .words) ws → Finished c backward r w ws k seen
-  finished true f q x y = record {
+      → Cleared (c .n) (length (c .sources)) w₁ w (c .words) ws → Finished c backward r w ws k seen
+  finished true f q x = record {
     long = f .long;
     sound = f .sound;
     complete = f .complete;
     above = f .above;
     vertices = vertices (f .long) (f .above) q;
     edges = f .count;
-    numbers = zeroed (length (c .targets)) (sym (accepted c e .table .even)) (f .frame) x;
-    words = y;
+    numbers = zeroed (length (c .targets)) (sym (accepted c e .table .even)) (f .frame) (x .numbers-zero);
+    words = x .words-zero;
   }
-  finished false f q x y = record {
+  finished false f q x = record {
     long = f .long;
     sound = f .sound;
     complete = f .complete;
     above = f .above;
     vertices = vertices (f .long) (f .above) q;
     edges = f .count;
-    numbers = zeroed (length (c .sources)) refl (f .frame) x;
-    words = y;
+    numbers = zeroed (length (c .sources)) refl (f .frame) (x .numbers-zero);
+    words = x .words-zero;
   }

@@ -18,6 +18,7 @@ use Rattle.graph.proofs.Tests.{and-split, and-make, eq-T}
 use Rattle.graph.proofs.Counts.{many-mono}
 use Rattle.graph.proofs.Chains.{chain-first, chain-last, chain-wider, edge-to-low}
 use Rattle.index.specs.Build.{OneAsk, One}
+use Rattle.index.proofs.Asks.{valid-column}
 use Rattle.index.proofs.Moved.{indexed-kept}
 use Rattle.paint.specs.Colours.{col, Opens, opens, Shut, Hit, painted}
 use Rattle.paint.specs.Paint.{LevelAsk, Spread, Begun, SearchAsk, Searched}
@@ -54,7 +55,7 @@ module _ (n : ℕ) (src tgt starts permitted w₀ r₀ : List ℕ) (a : RunAsk (
   b = n + 1 + length src
 
   pub one-ask : OneAsk src n w₀
-  one-ask = record { column = record { below = a .valid .from-low; small = omega (arith, a .small); few = omega (arith, a .few) }; room = omega (arith, a .room) }
+  one-ask = record { column = valid-column (a .valid) (a .small) (a .few); room = omega (arith, a .room) }
 
   module _ (w₁ : List ℕ) (o : One src n w₀ w₁) where
     pub colour-ask : ColourAsk n b permitted w₁

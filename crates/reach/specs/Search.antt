@@ -1,18 +1,18 @@
 -- The search as callers see it.
 use Prim.Native.Nat.{ℕ, _≤_}
 use mathlib.Core.Path.{_≡_}
-use mathlib.Core.Bool.{Bool, not, _||_}
+use mathlib.Core.Bool.{Bool, _||_}
 use mathlib.Core.List.{List}
 use lib.ListN.{length}
-use lib.Dec.{eqb, ltb}
-use Rattle.graph.specs.Limits.{wordsOf, numbersNeeded, wordsNeeded, wrongLength, memoryShort}
+use Rattle.graph.specs.Limits.{numbersNeeded, wordsNeeded, wrongLength, memoryShort}
 use Rattle.graph.specs.Numbers.{many}
 use Rattle.graph.specs.Graph.{Graph, Part, graph, turned}
 use Rattle.graph.specs.Parts.{Fwd}
 use Rattle.graph.specs.Search.{looked}
 use Rattle.graph.specs.Sets.{bit, Members, members}
 use Rattle.graph.specs.Memory.{Zeroed}
-use Rattle.graph.specs.Refusal.{given, _or_, tableRefusal}
+use Rattle.graph.specs.Refusal.{given, _or_, tableRefusal, lacking}
+use Rattle.sets.specs.Sizes.{ill-sized}
 use Rattle.reach.specs.declared.Answer.{Answer}
 use Rattle.reach.specs.declared.Answer.the-variants.{Done, Refused}
 
@@ -27,16 +27,12 @@ pub record Call : Type 0 where
   pub numbers : List ℕ
   pub words : List ℕ
 
--- a set is not exactly n / 64 words, rounded up
-abbrev pub ill-sized : ℕ → List ℕ → Bool
-ill-sized n ws = not (eqb (length ws) (wordsOf n))
-
 -- the first of 1 to 6 that applies, else 0
 unfoldable pub searchRefusal : Call → ℕ
 searchRefusal c =
     tableRefusal (c .n) (c .sources) (c .targets)
     or given wrongLength (ill-sized (c .n) (c .starts) || ill-sized (c .n) (c .permitted) || ill-sized (c .n) (c .reached))
-    or given memoryShort (ltb (length (c .numbers)) (numbersNeeded (c .n) (length (c .sources))) || ltb (length (c .words)) (wordsNeeded (c .n)))
+    or given memoryShort (lacking (c .n) (length (c .sources)) (length (c .numbers)) (length (c .words)))
 
 -- the table in the direction of the search
 abbrev pub tableOf : Call → Bool → Graph

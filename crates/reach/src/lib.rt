@@ -41,10 +41,7 @@ fn refusal(
     if reached.len() != size {
         return limits::WRONG_LENGTH;
     }
-    if numbers.len() < 12 * n + 2 * sources.len() + 16 {
-        return limits::MEMORY_SHORT;
-    }
-    if words.len() < 6 * size {
+    if limits::lacking(n, sources.len(), numbers.len(), words.len()) {
         return limits::MEMORY_SHORT;
     }
     0
@@ -89,8 +86,7 @@ pub fn search(
         reached,
     );
     let vertices = sets::size(reached);
-    memory::zero_numbers(numbers, 12 * n + 2 * sources.len() + 16);
-    memory::zero_words(words, 6 * ((n + 63) / 64));
+    memory::clear(n, sources.len(), numbers, words);
     Answer::Done {
         vertices: vertices,
         edges: edges,

@@ -1,5 +1,5 @@
 -- Between sets and colours, step by step.
-use Prim.Native.Nat.{ℕ, _+_, _-_, _*_, _/_, _%_, _^_, _≤_, _<_}
+use Prim.Native.Nat.{ℕ, _+_, _-_, _*_, _≤_, _<_}
 use native.Mathlib.Omega.{arith}
 use native.Mathlib.Decide.{ℕ-discrete, decLt}
 use mathlib.Core.Path.{_≡_, refl, sym, ap, _∙_}
@@ -11,9 +11,6 @@ use lib.Seq.{getD-set-same, getD-set-other}
 use lib.Dec.{eqb, ltb}
 use borrow.Author.Tests.{lt-ltb, le-ltb, eq-eqb, ne-eqb}
 use Rattle.graph.specs.Sets.{bit}
-use Rattle.graph.specs.Memory.{Zeroed}
-use Rattle.sets.proofs.Digits.{small-at}
-use Rattle.sets.proofs.Store.{bit-past}
 use Rattle.paint.specs.Colours.{col}
 use Rattle.trim.specs.Chain.{ord, nxt}
 use Rattle.trim.specs.Trim.{hued}
@@ -86,14 +83,6 @@ module _ {n b q : ℕ} {w₀ : List ℕ} (a : StringAsk n b w₀) (i : ℕ) {h :
   }
 
 -- A COLOUR BECOMES A SET
--- a set whose words are zero has no bit
-pub empty-bit : (k : ℕ) (r r' : List ℕ) → length r ≤ k → Zeroed k r r' → (v : ℕ) → bit r' v ≡ 0
-unfolding bit
-empty-bit k r r' l z v = elim (decLt (v / 64) k) as (λ _. bit r' v ≡ 0) [
-  | yes h ↦ ap (λ (x : ℕ). x / 2 ^ (v % 64) % 2) (z .front (v / 64) h) ∙ small-at 0 0 (v % 64) (omega arith) (omega arith)
-  | no h ↦ bit-past r' v (omega (arith, z .long))
-]
-
 ltb-more : (v i : ℕ) → (v ≡ i → ⊥) → ltb v (i + 1) ≡ ltb v i
 ltb-more v i o = elim (decLt v i) as (λ _. ltb v (i + 1) ≡ ltb v i) [
   | yes h ↦ lt-ltb v (i + 1) (omega arith) ∙ sym (lt-ltb v i h)

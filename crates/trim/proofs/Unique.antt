@@ -1,8 +1,6 @@
 -- Two outcomes that the promise of trimming allows are equal: the answer and all memory lent. What is left is the greatest tight part.
 use Prim.Native.Nat.{ℕ}
-use native.Mathlib.Omega.{arith}
-use mathlib.Core.Path.{_≡_, refl, sym, ap, _∙_}
-use mathlib.Core.Bool.{Bool, true, false, cond}
+use mathlib.Core.Path.{_≡_, sym, ap, _∙_}
 use mathlib.Core.List.{List}
 use lib.Dec.{T, ltb, ltb→lt}
 use Rattle.graph.specs.Graph.{graph}
@@ -17,6 +15,7 @@ use Rattle.sets.proofs.Unique.{Words, set-one}
 use Rattle.trim.specs.Promise.{Call, leftOf, Promise}
 use Rattle.trim.specs.declared.Answer.{Answer}
 use Rattle.trim.specs.declared.Answer.the-variants.{Done, Refused}
+use Rattle.trim.proofs.Whole.{one-mark, mark-one}
 
 pub trim-one : (c : Call) (r w ws r' w' ws' : List ℕ) (a a' : Answer) → Words r → Words r' → Promise c r w ws a → Promise c r' w' ws' a'
     → (a ≡ a') × (r ≡ r') × (w ≡ w') × (ws ≡ ws')
@@ -37,11 +36,4 @@ left-is c = core-is (graph (c .n) (c .sources) (c .targets)) (members (c .n) (c 
 
 -- a bit is 1 exactly where the mark is set
 pub left-bit : (c : Call) (r w ws : List ℕ) (k : ℕ) → Promise c r w ws (Done k) → (v : ℕ) → (bit r v ≡ 1 → T (mark (leftOf c) v)) × (T (mark (leftOf c) v) → bit r v ≡ 1)
-left-bit c r w ws k p v = (λ e. back (mark (leftOf c) v) (sym (p .gives .set v) ∙ e), λ t. p .gives .set v ∙ fore (mark (leftOf c) v) t)
-  where
-    back : (m : Bool) → _≡_ {A = ℕ} (cond m 1 0) 1 → T m
-    back true q = tt
-    back false q = absurd (omega arith)
-
-    fore : (m : Bool) → T m → _≡_ {A = ℕ} (cond m 1 0) 1
-    fore true q = refl
+left-bit c r w ws k p v = (λ e. one-mark (mark (leftOf c) v) (sym (p .gives .set v) ∙ e), λ t. p .gives .set v ∙ mark-one (mark (leftOf c) v) t)

@@ -8,29 +8,29 @@ use mathlib.Core.Bool.{Bool, true, false, cond, _&&_}
 use mathlib.Core.List.{List}
 use lib.ListN.{length}
 use lib.Dec.{T, eqb, ltb, eqb→eq, ltb→lt, lt→ltb}
-use borrow.Author.Tests.{ltb-false, eqb-true, not-false}
-use Rattle.graph.specs.Limits.{wordsOf, numbersNeeded, wordsNeeded}
+use Rattle.graph.specs.Limits.{wordsOf, Enough}
 use Rattle.graph.specs.Graph.{Graph, graph}
 use Rattle.graph.specs.Numbers.{table, tally, many, mark}
 use Rattle.graph.specs.Search.{part, trim, trimmed, core}
 use Rattle.graph.specs.Sets.{bit, members}
-use Rattle.graph.specs.Memory.{Zeroed}
+use Rattle.graph.specs.Memory.{Zeroed, ClearAsk, Cleared}
+use Rattle.graph.proofs.Memory.{zeroed-after}
 use Rattle.graph.proofs.Tests.{table-same, T-dec, and-l, and-r, and-make, eq-T}
 use Rattle.graph.proofs.Counts.{many-mono}
 use Rattle.graph.proofs.Chains.{valid-rev}
-use Rattle.graph.proofs.Refusals.{or-none, or-left-none, given-none, Passed, table-passed, passed-valid}
+use Rattle.graph.proofs.Refusals.{or-none, or-left-none, given-none, not-lacking, Passed, table-passed, passed-valid}
 use Rattle.graph.proofs.Trim.{core-is}
 use Rattle.index.specs.Build.{BothAsk, Both}
+use Rattle.index.proofs.Asks.{valid-both}
 use Rattle.index.proofs.Moved.{indexed-kept}
-use Rattle.sets.proofs.Store.{bit-lt}
-use Rattle.sets.proofs.Sizes.{size-below, size-many}
+use Rattle.sets.proofs.Store.{bit-lt, empty-bit}
+use Rattle.sets.proofs.Sizes.{sized, size-below, size-many}
 use Rattle.paint.specs.Colours.{col}
 use Rattle.trim.specs.Chain.{own, nxt, Follows}
 use Rattle.trim.specs.Trim.{hued, revAt, TrimAsk, Trimmed}
 use Rattle.trim.specs.Stages.{ColourAsk, Coloured, StringAsk, From, Strung, CollectAsk, Collected, RunAsk, Ran}
-use Rattle.trim.specs.Promise.{Call, ill-sized, trimRefusal, leftOf, Finished}
+use Rattle.trim.specs.Promise.{Call, trimRefusal, leftOf, Finished}
 use Rattle.trim.proofs.Core.{hued-is, is-hued, core-of}
-use Rattle.trim.proofs.Between.{empty-bit}
 
 -- tests that hold together are equal
 same-test : (a b : Bool) → (T a → T b) → (T b → T a) → a ≡ b
@@ -38,6 +38,14 @@ same-test true true f g = refl
 same-test true false f g = absurd (f tt)
 same-test false true f g = absurd (g tt)
 same-test false false f g = refl
+
+-- a bit is 1 exactly where its mark is set
+pub one-mark : (m : Bool) → _≡_ {A = ℕ} (cond m 1 0) 1 → T m
+one-mark true q = tt
+one-mark false q = absurd (omega arith)
+
+pub mark-one : (m : Bool) → T m → _≡_ {A = ℕ} (cond m 1 0) 1
+mark-one true q = refl
 
 -- the core depends only on which vertices below n are in the part
 pub core-same : (g : Graph) (p p' : ℕ → Bool) → ((v : ℕ) → v < g .n → p v ≡ p' v) → core g p ≡ core g p'
@@ -57,12 +65,7 @@ module _ {n : ℕ} {sources targets part w₀ r₀ : List ℕ} (a : RunAsk (grap
   b = 2 * (n + 1 + length sources)
 
   pub both-ask : BothAsk sources targets n w₀
-  both-ask = record {
-    forward = record { below = a .valid .from-low; small = omega (arith, a .small); few = omega (arith, a .few) };
-    reverse = record { below = λ e l. a .valid .to-low e (omega (arith, a .valid .same)); small = omega (arith, a .small); few = omega (arith, a .few, a .valid .same) };
-    even = a .valid .same;
-    room = omega (arith, a .room);
-  }
+  both-ask = valid-both (a .valid) (a .small) (a .few) (omega (arith, a .room))
 
   module _ {w₁ : List ℕ} (o : Both sources targets n w₀ w₁) where
     pub colour-ask : ColourAsk n b part w₁
@@ -160,16 +163,12 @@ module _ {n : ℕ} {sources targets part w₀ r₀ : List ℕ} (a : RunAsk (grap
           }
 
 -- THE CALL
-sized : (n : ℕ) (ws : List ℕ) → ill-sized n ws ≡ false → length ws ≡ wordsOf n
-sized n ws e = eqb-true (length ws) (wordsOf n) (not-false (eqb (length ws) (wordsOf n)) e)
-
 -- what a call has that is not refused
 pub record Accepted (c : Call) : Type 0 where
   pub table : Passed (c .n) (c .sources) (c .targets)
   pub part : length (c .part) ≡ wordsOf (c .n)
   pub left : length (c .left) ≡ wordsOf (c .n)
-  pub numbers : numbersNeeded (c .n) (length (c .sources)) ≤ length (c .numbers)
-  pub words : wordsNeeded (c .n) ≤ length (c .words)
+  pub memory : Enough (c .n) (length (c .sources)) (length (c .numbers)) (length (c .words))
 
 module _ (c : Call) (e : trimRefusal c ≡ 0) where
   pub accepted : Accepted c
@@ -178,13 +177,11 @@ module _ (c : Call) (e : trimRefusal c ≡ 0) where
       let (e1, r1) = or-none _ _ e in
       let (e2, e3) = or-none _ _ r1 in
       let (p, l) = or-left-none _ _ (given-none 5 _ (suc-ne-zero 4) e2) in
-      let (m, w) = or-left-none _ _ (given-none 6 _ (suc-ne-zero 5) e3) in
       record {
         table = table-passed (c .n) (c .sources) (c .targets) e1;
         part = sized (c .n) (c .part) p;
         left = sized (c .n) (c .left) l;
-        numbers = ltb-false _ _ m;
-        words = ltb-false _ _ w;
+        memory = not-lacking (c .n) (length (c .sources)) (length (c .numbers)) (length (c .words)) (given-none 6 _ (suc-ne-zero 5) e3);
       }
 
   pub run-ask : RunAsk (graph (c .n) (c .sources) (c .targets)) (c .part) (c .numbers) (c .left)
@@ -192,12 +189,18 @@ module _ (c : Call) (e : trimRefusal c ≡ 0) where
     valid = passed-valid (c .n) (c .sources) (c .targets) (a .table);
     small = a .table .small;
     few = a .table .few;
-    room = a .numbers;
+    room = a .memory .numbers;
     part-long = a .part;
     left-long = a .left;
   }
 
-  -- the part was trimmed, what is left measured, and the working memory zeroed
+  pub clear-ask : (w : List ℕ) → length w ≡ length (c .numbers) → ClearAsk (c .n) (length (c .sources)) w (c .words)
+  clear-ask w q = let a = accepted in record {
+    limits = record { small = a .table .small; few = a .table .few };
+    enough = record { numbers = omega (arith, a .memory .numbers); words = a .memory .words };
+  }
+
+  -- the part was trimmed, what is left measured, and the working memory cleared
   module _ {w₁ r : List ℕ} (z : Ran (graph (c .n) (c .sources) (c .targets)) (c .part) (c .numbers) (c .left) w₁ r) where
     low : (v : ℕ) → T (mark (leftOf c) v) → v < c .n
     low v t = lower (core-is (graph (c .n) (c .sources) (c .targets)) (members (c .n) (c .part)) (λ u y. lower y) .inside v t)
@@ -209,28 +212,21 @@ module _ (c : Call) (e : trimRefusal c ≡ 0) where
     above v l = z .set v ∙ ap (λ (t : Bool). cond t 1 0) (same-test (mark (leftOf c) v) false (λ t. absurd (omega (arith, low v t))) (λ t. absurd t))
 
     is-member : (v : ℕ) → v < c .n → T (members (c .n) r v) → T (mark (leftOf c) v)
-    is-member v l t = go (mark (leftOf c) v) (sym (z .set v) ∙ eqb→eq (bit r v) 1 (and-r (ltb v (c .n)) _ t))
-      where
-        go : (m : Bool) → _≡_ {A = ℕ} (cond m 1 0) 1 → T m
-        go true q = tt
-        go false q = absurd (omega arith)
+    is-member v l t = one-mark (mark (leftOf c) v) (sym (z .set v) ∙ eqb→eq (bit r v) 1 (and-r (ltb v (c .n)) _ t))
 
     member-is : (v : ℕ) → v < c .n → T (mark (leftOf c) v) → T (members (c .n) r v)
-    member-is v l t = and-make (ltb v (c .n)) _ (lt→ltb v (c .n) l) (eq-T (bit r v) 1 (z .set v ∙ go (mark (leftOf c) v) t))
-      where
-        go : (m : Bool) → T m → _≡_ {A = ℕ} (cond m 1 0) 1
-        go true q = refl
+    member-is v l t = and-make (ltb v (c .n)) _ (lt→ltb v (c .n) l) (eq-T (bit r v) 1 (z .set v ∙ mark-one (mark (leftOf c) v) t))
 
     size : (k : ℕ) → k ≡ tally (bit r) (length r * 64) → k ≡ many (mark (leftOf c)) (c .n)
     size k q = q ∙ size-below r (c .n) (length r * 64) (omega (arith, accepted .left, z .long)) above ∙ size-many r (c .n)
         ∙ omega (arith, many-mono (members (c .n) r) (mark (leftOf c)) (c .n) is-member, many-mono (mark (leftOf c)) (members (c .n) r) (c .n) member-is)
 
-    pub finished : {w ws : List ℕ} {k : ℕ} → k ≡ tally (bit r) (length r * 64) → Zeroed (numbersNeeded (c .n) (length (c .sources))) w₁ w → Zeroed (wordsNeeded (c .n)) (c .words) ws → Finished c r w ws k
-    finished {k = k} q x y = record {
+    pub finished : {w ws : List ℕ} {k : ℕ} → k ≡ tally (bit r) (length r * 64) → Cleared (c .n) (length (c .sources)) w₁ w (c .words) ws → Finished c r w ws k
+    finished {k = k} q x = record {
       long = z .long;
       set = z .set;
       above = above;
       vertices = size k q;
-      numbers = record { long = x .long ∙ z .numbers; front = x .front; rest = λ j l. x .rest j l ∙ z .rest j l };
-      words = y;
+      numbers = zeroed-after (z .numbers) (z .rest) (x .numbers-zero);
+      words = x .words-zero;
     }

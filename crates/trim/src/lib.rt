@@ -39,10 +39,7 @@ fn refusal(
     if left.len() != size {
         return limits::WRONG_LENGTH;
     }
-    if numbers.len() < 12 * n + 2 * sources.len() + 16 {
-        return limits::MEMORY_SHORT;
-    }
-    if words.len() < 6 * size {
+    if limits::lacking(n, sources.len(), numbers.len(), words.len()) {
         return limits::MEMORY_SHORT;
     }
     0
@@ -66,7 +63,6 @@ pub fn trim(
     }
     stages::run(n, sources, targets, part, numbers, left);
     let vertices = sets::size(left);
-    memory::zero_numbers(numbers, 12 * n + 2 * sources.len() + 16);
-    memory::zero_words(words, 6 * ((n + 63) / 64));
+    memory::clear(n, sources.len(), numbers, words);
     Answer::Done { vertices: vertices }
 }

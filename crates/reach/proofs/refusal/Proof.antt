@@ -1,18 +1,15 @@
 use native.Mathlib.Omega.{arith}
 use mathlib.Core.Path.{_≡_, sym, _∙_}
-use borrow.Author.Needs.{needs}
-use borrow.Author.Tests.{lt-ltb, le-ltb, eq-eqb, ne-eqb}
+use borrow.Author.Tests.{eq-eqb, ne-eqb}
 use Rattle.graph.specs.Refusal.{given, _or_, tableRefusal}
-use Rattle.graph.proofs.Refusals.{Passed, table-passed, or-stop}
+use Rattle.graph.proofs.Refusals.{table-limits, or-stop}
 use Rattle.reach.specs.Search.{searchRefusal}
+use borrow.Author.Needs.{needs}
 use Rattle.reach.proofs.refusal.Statement.{statement}
 use Rattle.reach.proofs.refusal.Tie as tie
 
 pass : (c : tie.Else1) → tableRefusal (c .before .before .before .before .before .before .before .before .before .args .n) (c .before .before .before .before .before .before .before .before .before .args .sources .now) (c .before .before .before .before .before .before .before .before .before .args .targets .now) ≡ 0
 pass c = sym (c .before .check .ensures) ∙ c .if1 .left
-
-passed : (c : tie.Else1) → Passed (c .before .before .before .before .before .before .before .before .before .args .n) (c .before .before .before .before .before .before .before .before .before .args .sources .now) (c .before .before .before .before .before .before .before .before .before .args .targets .now)
-passed c = table-passed _ _ _ (pass c)
 
 check-requires : tie.Need-check-requires
 check-requires c κs = search needs
@@ -22,7 +19,7 @@ unfolding searchRefusal given _or_
 returns c = sym (or-stop _ _ (λ e. c .if1 .taken (c .before .check .ensures ∙ e)) ∙ sym (c .before .check .ensures))
 
 add-size : tie.Need-add-size
-add-size c = omega (arith, passed c)
+add-size c = omega (arith, table-limits _ _ _ (pass c) .small)
 
 returns-2 : tie.Need-returns-2
 unfolding searchRefusal given _or_
@@ -36,32 +33,16 @@ returns-4 : tie.Need-returns-4
 unfolding searchRefusal given _or_
 returns-4 c = rw (pass (c .before .before .before), eq-eqb _ _ (c .before .before .if2 .left), eq-eqb _ _ (c .before .if3 .left), ne-eqb _ _ (c .if4 .taken))
 
-mul-if5 : tie.Need-mul-if5
-mul-if5 c = omega (arith, passed (c .before .before .before))
-
-mul-if5-2 : tie.Need-mul-if5-2
-mul-if5-2 c = search needs
-
-add-if5 : tie.Need-add-if5
-add-if5 c = omega (arith, passed (c .before .before .before))
-
-add-if5-2 : tie.Need-add-if5-2
-add-if5-2 c = omega (arith, passed (c .before .before .before))
+lacking-requires : tie.Need-lacking-requires
+lacking-requires c κs = table-limits _ _ _ (pass (c .before .before .before))
 
 returns-5 : tie.Need-returns-5
 unfolding searchRefusal given _or_
-returns-5 c = rw (pass (c .before .before .before .before), eq-eqb _ _ (c .before .before .before .if2 .left), eq-eqb _ _ (c .before .before .if3 .left), eq-eqb _ _ (c .before .if4 .left), lt-ltb _ _ (c .if5 .taken))
-
-mul-if6 : tie.Need-mul-if6
-mul-if6 c = omega (arith, passed (c .before .before .before .before))
+returns-5 c = rw (pass (c .before .before .before .before .before), eq-eqb _ _ (c .before .before .before .before .if2 .left), eq-eqb _ _ (c .before .before .before .if3 .left), eq-eqb _ _ (c .before .before .if4 .left), sym (c .before .lacking .ensures) ∙ c .if5 .taken)
 
 returns-6 : tie.Need-returns-6
 unfolding searchRefusal given _or_
-returns-6 c = rw (pass (c .before .before .before .before .before), eq-eqb _ _ (c .before .before .before .before .if2 .left), eq-eqb _ _ (c .before .before .before .if3 .left), eq-eqb _ _ (c .before .before .if4 .left), le-ltb _ _ (c .before .if5 .left), lt-ltb _ _ (c .if6 .taken))
-
-returns-7 : tie.Need-returns-7
-unfolding searchRefusal given _or_
-returns-7 c = rw (pass (c .before .before .before .before .before), eq-eqb _ _ (c .before .before .before .before .if2 .left), eq-eqb _ _ (c .before .before .before .if3 .left), eq-eqb _ _ (c .before .before .if4 .left), le-ltb _ _ (c .before .if5 .left), le-ltb _ _ (c .if6 .left))
+returns-6 c = rw (pass (c .before .before .before .before .before), eq-eqb _ _ (c .before .before .before .before .if2 .left), eq-eqb _ _ (c .before .before .before .if3 .left), eq-eqb _ _ (c .before .before .if4 .left), sym (c .before .lacking .ensures) ∙ c .if5 .left)
 
 pub refusal-spec : {M : Type 1} → statement M
 refusal-spec =
@@ -73,11 +54,6 @@ refusal-spec =
     returns-2
     returns-3
     returns-4
-    mul-if5
-    mul-if5-2
-    add-if5
-    add-if5-2
+    lacking-requires
     returns-5
-    mul-if6
-    returns-6
-    returns-7)
+    returns-6)

@@ -1,7 +1,7 @@
 use mathlib.Core.Path.{sym, _∙_}
 use native.Mathlib.Omega.{arith}
+use Rattle.trim.proofs.Whole.{accepted, run-ask, clear-ask, finished}
 use borrow.Author.Needs.{needs}
-use Rattle.trim.proofs.Whole.{accepted, run-ask, finished}
 use Rattle.trim.proofs.trim.Statement.{statement}
 use Rattle.trim.proofs.trim.Tie as tie
 
@@ -21,52 +21,22 @@ returns : tie.Need-returns
 returns c = search needs
 
 run-requires : tie.Need-run-requires
-run-requires c κs = let at-if1 = c .before .before in
-    let e = sym (at-if1 .before .refusal .ensures) ∙ at-if1 .if1 .left in
-    run-ask _ e
+run-requires c κs =
+    let at-if1 = c .before .before in
+    run-ask _ (sym (at-if1 .before .refusal .ensures) ∙ at-if1 .if1 .left)
 
 size-requires : tie.Need-size-requires
-size-requires c κs = let at-run = c .before .before .before .before .before in
+size-requires c κs =
+    let at-run = c .before .before .before .before .before in
     let at-if1 = at-run .before .before .before in
-    let e = sym (at-if1 .before .refusal .ensures) ∙ at-if1 .if1 .left in
-    omega (arith, accepted _ e .left, accepted _ e .table .small, at-run .run .ensures .long)
+    let a = accepted _ (sym (at-if1 .before .refusal .ensures) ∙ at-if1 .if1 .left) in
+    omega (arith, a .left, a .table .small, at-run .run .ensures .long)
 
-mul-zero-numbers : tie.Need-mul-zero-numbers
-mul-zero-numbers c = let at-if1 = c .before .before .before .before .before .before .before .before .before .before in
-    let e = sym (at-if1 .before .refusal .ensures) ∙ at-if1 .if1 .left in
-    omega (arith, accepted _ e .table)
-
-mul-zero-numbers-2 : tie.Need-mul-zero-numbers-2
-mul-zero-numbers-2 c = search needs
-
-add-zero-numbers : tie.Need-add-zero-numbers
-add-zero-numbers c = let at-if1 = c .before .before .before .before .before .before .before .before .before .before in
-    let e = sym (at-if1 .before .refusal .ensures) ∙ at-if1 .if1 .left in
-    omega (arith, accepted _ e .table)
-
-add-zero-numbers-2 : tie.Need-add-zero-numbers-2
-add-zero-numbers-2 c = let at-if1 = c .before .before .before .before .before .before .before .before .before .before in
-    let e = sym (at-if1 .before .refusal .ensures) ∙ at-if1 .if1 .left in
-    omega (arith, accepted _ e .table)
-
-zero-numbers-requires : tie.Need-zero-numbers-requires
-zero-numbers-requires c κs = let at-run = c .before .before .before .before .before .before .before in
+clear-requires : tie.Need-clear-requires
+clear-requires c κs =
+    let at-run = c .before .before .before .before .before .before .before .before in
     let at-if1 = at-run .before .before .before in
-    let e = sym (at-if1 .before .refusal .ensures) ∙ at-if1 .if1 .left in
-    omega (arith, accepted _ e .numbers, at-run .run .ensures .numbers)
-
-add-zero-words : tie.Need-add-zero-words
-add-zero-words c = let at-if1 = c .before .before .before .before .before .before .before .before .before .before .before .before .before .before in
-    let e = sym (at-if1 .before .refusal .ensures) ∙ at-if1 .if1 .left in
-    omega (arith, accepted _ e .table)
-
-mul-zero-words : tie.Need-mul-zero-words
-mul-zero-words c = search needs
-
-zero-words-requires : tie.Need-zero-words-requires
-zero-words-requires c κs = let at-if1 = c .before .before .before .before .before .before .before .before .before .before .before .before .before .before in
-    let e = sym (at-if1 .before .refusal .ensures) ∙ at-if1 .if1 .left in
-    omega (arith, accepted _ e .words)
+    clear-ask _ (sym (at-if1 .before .refusal .ensures) ∙ at-if1 .if1 .left) _ (at-run .run .ensures .numbers)
 
 same-length-4 : tie.Need-same-length-4
 same-length-4 c = search needs
@@ -78,13 +48,13 @@ same-length-6 : tie.Need-same-length-6
 same-length-6 c = search needs
 
 returns-2 : tie.Need-returns-2
-returns-2 c = let at-zero-words = c .before .before in
-    let at-zero-numbers = at-zero-words .before .before .before .before in
-    let at-size = at-zero-numbers .before .before in
+returns-2 c =
+    let at-clear = c .before .before .before .before in
+    let at-size = at-clear .before .before .before in
     let at-run = at-size .before .before .before .before .before .before in
     let at-if1 = at-run .before .before .before in
     let e = sym (at-if1 .before .refusal .ensures) ∙ at-if1 .if1 .left in
-    record { refusal = sym (at-if1 .if1 .left) ∙ at-if1 .before .refusal .ensures; gives = finished _ e (at-run .run .ensures) (at-size .size .ensures) (at-zero-numbers .zero-numbers .ensures) (at-zero-words .zero-words .ensures) }
+    record { refusal = sym (at-if1 .if1 .left) ∙ at-if1 .before .refusal .ensures; gives = finished _ e (at-run .run .ensures) (at-size .size .ensures) (at-clear .clear .ensures) }
 
 pub trim-spec : {M : Type 1} → statement M
 trim-spec =
@@ -97,14 +67,7 @@ trim-spec =
     returns
     run-requires
     size-requires
-    mul-zero-numbers
-    mul-zero-numbers-2
-    add-zero-numbers
-    add-zero-numbers-2
-    zero-numbers-requires
-    add-zero-words
-    mul-zero-words
-    zero-words-requires
+    clear-requires
     same-length-4
     same-length-5
     same-length-6
