@@ -2,20 +2,20 @@
 use Prim.Native.Nat.{ℕ, _≤_, _<_}
 use native.Mathlib.Omega.{arith}
 use native.Mathlib.Nat.{suc-ne-zero}
-use native.Mathlib.Decide.{ℕ-discrete}
 use mathlib.Core.Path.{_≡_, refl, sym, _∙_}
 use mathlib.Core.Logic.{_⊎_, ⊎-elim}
 use mathlib.Core.Bool.{Bool, true, false}
 use mathlib.Core.List.{List}
 use lib.ListN.{length}
 use lib.Dec.{leb}
-use borrow.Author.Tests.{lt-ltb, le-ltb, le-leb, lt-leb, ltb-false, leb-false}
+use borrow.Author.Tests.{lt-ltb, le-ltb, le-leb, lt-leb, leb-false}
 use Rattle.graph.specs.Graph.{Valid}
-use Rattle.graph.specs.Limits.{numbersNeeded, wordsNeeded, memoryShort, vertexOutside, noPath, roomShort}
-use Rattle.graph.specs.Refusal.{given, _or_, tableRefusal}
-use Rattle.graph.specs.Memory.{Zeroed}
+use Rattle.graph.specs.Limits.{wordsNeeded, Enough, noPath, roomShort}
+use Rattle.graph.specs.Refusal.{given, _or_}
+use Rattle.graph.specs.Memory.{Zeroed, ClearAsk, Cleared}
+use Rattle.graph.proofs.Memory.{zeroed-after}
 use Rattle.graph.specs.Paths.{Path·of, walk}
-use Rattle.graph.proofs.Refusals.{or-stop, or-pass, or-none, given-none, or-left-none, Passed, table-passed, passed-valid}
+use Rattle.graph.proofs.Refusals.{or-stop, or-none, or-most, given-none, given-most, or-left-none, not-lacking, table-most, Passed, table-passed, passed-valid}
 use Rattle.graph.proofs.Distance.{dist-is, dist-reached}
 use Rattle.graph.proofs.Paths.{walk-path, path-least}
 use Rattle.paths.specs.declared.Answer.{Answer}
@@ -23,55 +23,16 @@ use Rattle.paths.specs.declared.Answer.the-variants.{Done, Refused}
 use Rattle.paths.specs.Walk.{FindAsk, Prepared, Settled}
 use Rattle.paths.specs.Promise.{Call, collection, distance, numbersOf, askRefusal, firstRefusal, pathRefusal, Left, Finished, Denied, Promise}
 
-given-most : (k : ℕ) (b : Bool) → k ≤ 10 → given k b ≤ 10
-unfolding given
-given-most k true h = h
-given-most k false h = omega arith
-
-or-most : (a b c : ℕ) → a ≤ c → b ≤ c → (a or b) ≤ c
-or-most a b c h l = elim (ℕ-discrete a 0) as (λ _. (a or b) ≤ c) [ yes q ↦ rw (or-pass a b q) l | no q ↦ rw (or-stop a b q) h ]
-
 -- WHAT IS REFUSED BEFORE THE SEARCH
-module _ (n : ℕ) (s t : List ℕ) (u v x y : ℕ) where
-  -- the numbers before the search are below 11
-  pub ask-most : askRefusal n s t u v x y ≤ 10
-  unfolding askRefusal tableRefusal
-  ask-most =
-      or-most _ _ 10 (or-most _ _ 10 (given-most 1 _ (omega arith)) (or-most _ _ 10 (given-most 2 _ (omega arith)) (or-most _ _ 10 (given-most 3 _ (omega arith)) (given-most 4 _ (omega arith)))))
-      (or-most _ _ 10 (given-most 6 _ (omega arith)) (given-most 9 _ (omega arith)))
-
-  pub ask-table : (tableRefusal n s t ≡ 0 → ⊥) → askRefusal n s t u v x y ≡ tableRefusal n s t
-  unfolding askRefusal
-  ask-table o = or-stop _ _ o
-
-  module _ (pass : tableRefusal n s t ≡ 0) where
-    pub ask-numbers : x < numbersNeeded n (length s) → askRefusal n s t u v x y ≡ memoryShort
-    unfolding askRefusal given _or_
-    ask-numbers h = rw (pass, lt-ltb _ _ h)
-
-    module _ (numbers : numbersNeeded n (length s) ≤ x) where
-      pub ask-words : y < wordsNeeded n → askRefusal n s t u v x y ≡ memoryShort
-      unfolding askRefusal given _or_
-      ask-words h = rw (pass, le-ltb _ _ numbers, lt-ltb _ _ h)
-
-      module _ (words : wordsNeeded n ≤ y) where
-        pub ask-u : n ≤ u → askRefusal n s t u v x y ≡ vertexOutside
-        unfolding askRefusal given _or_
-        ask-u h = rw (pass, le-ltb _ _ numbers, le-ltb _ _ words, le-leb _ _ h)
-
-        pub ask-v : u < n → n ≤ v → askRefusal n s t u v x y ≡ vertexOutside
-        unfolding askRefusal given _or_
-        ask-v l h = rw (pass, le-ltb _ _ numbers, le-ltb _ _ words, lt-leb _ _ l, le-leb _ _ h)
-
-        pub ask-none : u < n → v < n → askRefusal n s t u v x y ≡ 0
-        unfolding askRefusal given _or_
-        ask-none l h = rw (pass, le-ltb _ _ numbers, le-ltb _ _ words, lt-leb _ _ l, lt-leb _ _ h)
+-- the numbers are below 11
+pub ask-most : (n : ℕ) (s t : List ℕ) (u v x y : ℕ) → askRefusal n s t u v x y ≤ 10
+unfolding askRefusal
+ask-most n s t u v x y = or-most _ _ 10 (omega (arith, table-most n s t)) (or-most _ _ 10 (given-most 6 _ 10 (omega arith)) (given-most 9 _ 10 (omega arith)))
 
 -- what a call that is not refused has
 pub record Admitted (c : Call) : Type 0 where
   pub passed : Passed (c .n) (c .sources) (c .targets)
-  pub numbers : numbersOf c ≤ length (c .numbers)
-  pub words : wordsNeeded (c .n) ≤ length (c .words)
+  pub memory : Enough (c .n) (length (c .sources)) (length (c .numbers)) (length (c .words))
   pub u-low : c .u < c .n
   pub v-low : c .v < c .n
 
@@ -81,12 +42,10 @@ module _ (c : Call) (pass : firstRefusal c ≡ 0) where
   admitted =
       let (e1, r1) = or-none _ _ pass in
       let (e2, e3) = or-none _ _ r1 in
-      let (x, y) = or-left-none _ _ (given-none 6 _ (suc-ne-zero 5) e2) in
       let (p, q) = or-left-none _ _ (given-none 9 _ (suc-ne-zero 8) e3) in
       record {
         passed = table-passed _ _ _ e1;
-        numbers = ltb-false (length (c .numbers)) (numbersOf c) x;
-        words = ltb-false (length (c .words)) (wordsNeeded (c .n)) y;
+        memory = not-lacking (c .n) (length (c .sources)) (length (c .numbers)) (length (c .words)) (given-none 6 _ (suc-ne-zero 5) e2);
         u-low = leb-false (c .n) (c .u) p;
         v-low = leb-false (c .n) (c .v) q;
       }
@@ -100,7 +59,13 @@ module _ (c : Call) (pass : firstRefusal c ≡ 0) where
     small = admitted .passed .small;
     few = admitted .passed .few;
     start = admitted .u-low;
-    room = omega (arith, admitted .numbers);
+    room = omega (arith, admitted .memory .numbers);
+  }
+
+  pub clear-ask : (w : List ℕ) → length w ≡ length (c .numbers) → ClearAsk (c .n) (length (c .sources)) w (c .words)
+  clear-ask w q = record {
+    limits = record { small = admitted .passed .small; few = admitted .passed .few };
+    enough = record { numbers = omega (arith, admitted .memory .numbers); words = admitted .memory .words };
   }
 
   -- AFTER THE SEARCH
@@ -117,9 +82,9 @@ module _ (c : Call) (pass : firstRefusal c ≡ 0) where
   not-refused h l = rw (pass, lt-leb (c .n) (distance c) h, le-ltb (length (c .room)) (distance c) l)
 
   module _ (room numbers₁ numbers words : List ℕ) (p : Prepared (collection c) (c .u) (c .numbers) numbers₁)
-      (z : Zeroed (numbersOf c) numbers₁ numbers) (y : Zeroed (wordsNeeded (c .n)) (c .words) words) where
+      (z : Cleared (c .n) (length (c .sources)) numbers₁ numbers (c .words) words) where
     zeroed : Zeroed (numbersOf c) (c .numbers) numbers
-    zeroed = record { long = z .long ∙ p .long; front = z .front; rest = λ j h. z .rest j h ∙ p .high j (omega arith) }
+    zeroed = zeroed-after (p .long) (λ j h. p .high j (omega arith)) (z .numbers-zero)
 
     pub settled-promise : (a : Answer) → Settled (collection c) (c .u) (c .v) (c .room) room a → Promise c room numbers words a
     settled-promise (Done d) s = record {
@@ -127,11 +92,11 @@ module _ (c : Call) (pass : firstRefusal c ≡ 0) where
       shortest = s .is;
       written = s .walked;
       numbers-left = zeroed;
-      words-left = y;
+      words-left = z .words-zero;
     }
     settled-promise (Refused k) s = ⊎-elim
-        (λ t. denied noPath (far-refused (t .1)) (λ q. omega (arith, q)) zeroed y k (t .0))
-        (λ t. denied roomShort (short-refused (t .1) (t .2)) (λ q. omega (arith, q)) zeroed y k (t .0))
+        (λ t. denied noPath (far-refused (t .1)) (λ q. omega (arith, q)) zeroed (z .words-zero) k (t .0))
+        (λ t. denied roomShort (short-refused (t .1) (t .2)) (λ q. omega (arith, q)) zeroed (z .words-zero) k (t .0))
         (s .why)
       where
         denied : (j : ℕ) → pathRefusal c ≡ j → (j ≡ 0 → ⊥) → Left (leb noPath j) (numbersOf c) (c .numbers) numbers → Left (leb noPath j) (wordsNeeded (c .n)) (c .words) words

@@ -13,9 +13,7 @@ use Rattle.graph.specs.Parts.{only}
 use Rattle.graph.specs.Limits.{mostVertices, mostEdges}
 use Rattle.graph.specs.Certificate.{IsDist, distOf}
 use Rattle.graph.specs.Paths.{nearer, walk}
-use Rattle.graph.specs.Memory.{Framed}
 use Rattle.graph.proofs.Lent.{cat-high}
-use Rattle.graph.proofs.Memory.{framed-none}
 use Rattle.graph.proofs.Chains.{chain-wider, valid-rev, edge-from-low}
 use Rattle.graph.proofs.Distance.{dist-is, dist-low, dist-unique, dist-reached}
 use Rattle.graph.proofs.Nearer.{has-nearer, nearer-is}
@@ -23,45 +21,19 @@ use Rattle.graph.proofs.Paths.{walk-length}
 use Rattle.index.specs.Index.{start}
 use Rattle.index.specs.Build.{BothAsk, Both}
 use Rattle.index.proofs.Counts.{start-mono, start-all}
+use Rattle.index.proofs.Asks.{valid-both}
 use Rattle.index.proofs.Moved.{indexed-kept}
 use Rattle.paint.specs.Colours.{col}
 use Rattle.paint.specs.Paint.{other}
 use Rattle.paint.specs.Distances.{Nearest, Measured, Has, MeasureAsk}
 use Rattle.paint.proofs.Spreading.{low-chain}
-use Rattle.paths.specs.Walk.{Filled, reverse, base, FindAsk, Known, Prepared, FirstAsk, First, WalkAsk, Walked, SettleAsk}
-
--- EVERY VERTEX GETS ONE COLOUR
--- the first v vertices have it
-pub record Filling (b n a : ℕ) (w₀ : List ℕ) (v : ℕ) (w : List ℕ) : Type 0 where
-  pub each : (x : ℕ) → x < v → col b w x ≡ a
-  pub frame : Framed b (b + n) w₀ w
-
-module _ (b n a : ℕ) (w₀ : List ℕ) (fits : b + n ≤ length w₀) where
-  pub fill-none : Filling b n a w₀ 0 w₀
-  fill-none = record { each = λ x l. absurd (omega arith); frame = framed-none b (b + n) w₀ }
-
-  pub fill-step : (v : ℕ) (w : List ℕ) → v < n → Filling b n a w₀ v w → Filling b n a w₀ (v + 1) (set w (b + v) a)
-  fill-step v w l z = record {
-    each = λ x h. elim (ℕ-discrete x v) as (λ _. col b (set w (b + v) a) x ≡ a) [
-      | yes e ↦ rw e (getD-set-same w (b + v) a 0 (omega (arith, z .frame .long)))
-      | no e ↦ getD-set-other w (b + v) (b + x) a 0 (omega arith) ∙ z .each x (omega arith)
-    ];
-    frame = record {
-      long = length-set w (b + v) a ∙ z .frame .long;
-      low = λ j h. getD-set-other w (b + v) j a 0 (omega arith) ∙ z .frame .low j h;
-      high = λ j h. getD-set-other w (b + v) j a 0 (omega arith) ∙ z .frame .high j h;
-    };
-  }
+use Rattle.regions.specs.Regions.{Filled}
+use Rattle.paths.specs.Walk.{reverse, base, FindAsk, Known, Prepared, FirstAsk, First, WalkAsk, Walked, SettleAsk}
 
 -- THE DISTANCES
 module _ {g : Graph} {u : ℕ} {w : List ℕ} (counts : (e : ℕ) → g .counted e ≡ true) (a : FindAsk g u w) where
   pub both-ask : BothAsk (g .src) (g .tgt) (g .n) w
-  both-ask = record {
-    forward = record { below = a .valid .from-low; small = omega (arith, a .small); few = omega (arith, a .few) };
-    reverse = record { below = valid-rev (a .valid) .from-low; small = omega (arith, a .small); few = omega (arith, a .few, a .valid .same) };
-    even = a .valid .same;
-    room = omega (arith, a .room);
-  }
+  both-ask = valid-both (a .valid) (a .small) (a .few) (omega (arith, a .room))
 
   module _ {w₁ : List ℕ} (x : Both (g .src) (g .tgt) (g .n) w w₁) where
     pub fill-room : base g + g .n ≤ length w₁
@@ -75,10 +47,10 @@ module _ {g : Graph} {u : ℕ} {w : List ℕ} (counts : (e : ℕ) → g .counted
           counts = counts;
           few = a .few;
           below = omega arith;
-          index = indexed-kept (g .src) (g .n) 0 w₁ w₂ (a .valid .from-low) (λ j h q. y .frame .low j (omega arith)) (x .forward);
+          index = indexed-kept (g .src) (g .n) 0 w₁ w₂ (a .valid .from-low) (λ j h q. y .framed .low j (omega arith)) (x .forward);
         };
         small = a .small;
-        fits = omega (arith, a .room, x .long, y .frame .long);
+        fits = omega (arith, a .room, x .long, y .framed .long);
         far = omega arith;
         start = a .start;
       }
@@ -89,17 +61,17 @@ module _ {g : Graph} {u : ℕ} {w : List ℕ} (counts : (e : ℕ) → g .counted
 
       pub find-all : {w₃ : List ℕ} {k : ℕ} → Measured g (base g) (Has (g .n + 1) (base g) w₂) (only u) w₂ w₃ k → Prepared g u w w₃
       find-all {w₃} z = record {
-        long = z .kept .long ∙ y .frame .long ∙ x .long;
-        high = λ j h. z .kept .high j h ∙ y .frame .high j (omega arith) ∙ x .rest j (omega arith);
+        long = z .kept .long ∙ y .framed .long ∙ x .long;
+        high = λ j h. z .kept .high j h ∙ y .framed .high j (omega arith) ∙ x .rest j (omega arith);
         known = record {
           valid = a .valid;
           counts = counts;
           small = a .small;
           few = a .few;
           start = a .start;
-          room = omega (arith, a .room, x .long, y .frame .long, z .kept .long);
+          room = omega (arith, a .room, x .long, y .framed .long, z .kept .long);
           index = indexed-kept (g .tgt) (g .n) (reverse g) w₁ w₃ (valid-rev (a .valid) .from-low)
-              (λ j h q. z .kept .low j (omega (arith, a .valid .same)) ∙ y .frame .low j (omega (arith, a .valid .same))) (x .reverse);
+              (λ j h q. z .kept .low j (omega (arith, a .valid .same)) ∙ y .framed .low j (omega (arith, a .valid .same))) (x .reverse);
           near = λ v l h. let r = dist-reached (a .valid) u v (a .start) l .0 h in ⊎-elim
               (λ t. dist-unique (is v t) (dist-is (a .valid) u v (a .start) l r))
               (λ t. absurd (t .0 (u, refl, (r .0, every (r .1)))))

@@ -7,7 +7,7 @@ use lib.ListN.{length, drop}
 use lib.Dec.{ltb, leb}
 use Rattle.graph.specs.Graph.{Graph, graph}
 use Rattle.graph.specs.Limits.{numbersNeeded, wordsNeeded, memoryShort, vertexOutside, noPath, roomShort}
-use Rattle.graph.specs.Refusal.{given, _or_, tableRefusal}
+use Rattle.graph.specs.Refusal.{given, _or_, tableRefusal, lacking}
 use Rattle.graph.specs.Certificate.{distOf}
 use Rattle.graph.specs.Paths.{walk}
 use Rattle.graph.specs.Memory.{Zeroed}
@@ -39,7 +39,7 @@ numbersOf c = numbersNeeded (c .n) (length (c .sources))
 unfoldable pub askRefusal : ℕ → List ℕ → List ℕ → (u v x y : ℕ) → ℕ
 askRefusal n sources targets u v x y =
     tableRefusal n sources targets
-    or given memoryShort (ltb x (numbersNeeded n (length sources)) || ltb y (wordsNeeded n))
+    or given memoryShort (lacking n (length sources) x y)
     or given vertexOutside (leb n u || leb n v)
 
 abbrev pub firstRefusal : Call → ℕ

@@ -9,17 +9,11 @@ use Rattle.graph.specs.Graph.{Graph, Valid, edges}
 use Rattle.graph.specs.Limits.{mostVertices, mostEdges, noPath, roomShort}
 use Rattle.graph.specs.Certificate.{distOf}
 use Rattle.graph.specs.Paths.{walk}
-use Rattle.graph.specs.Memory.{Framed}
 use Rattle.index.specs.Index.{Indexed}
 use Rattle.paint.specs.Colours.{col}
 use Rattle.paint.specs.Paint.{other}
 use Rattle.paths.specs.declared.Answer.{Answer}
 use Rattle.paths.specs.declared.Answer.the-variants.{Done, Refused}
-
--- every vertex has the colour a
-pub record Filled (b n a : ℕ) (w w' : List ℕ) : Type 0 where
-  pub each : (v : ℕ) → v < n → col b w' v ≡ a
-  pub frame : Framed b (b + n) w w'
 
 -- where the reverse index stands, and where the colours
 abbrev pub reverse : Graph → ℕ

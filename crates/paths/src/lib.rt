@@ -29,10 +29,7 @@ fn refusal(
     if k != 0 {
         return k;
     }
-    if x < 12 * n + 2 * sources.len() + 16 {
-        return limits::MEMORY_SHORT;
-    }
-    if y < 6 * ((n + 63) / 64) {
+    if limits::lacking(n, sources.len(), x, y) {
         return limits::MEMORY_SHORT;
     }
     if n <= u {
@@ -63,7 +60,6 @@ pub fn path(
     }
     walk::find(n, sources, targets, u, numbers);
     let answer = walk::settle(n, sources, targets, u, v, numbers, room);
-    memory::zero_numbers(numbers, 12 * n + 2 * sources.len() + 16);
-    memory::zero_words(words, 6 * ((n + 63) / 64));
+    memory::clear(n, sources.len(), numbers, words);
     answer
 }

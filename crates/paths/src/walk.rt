@@ -1,24 +1,10 @@
 // Distances from u by levels, and the walk back from v along them.
-ghost use Prim.Native.Nat.{_+_, _≤_};
-ghost use lib.ListN.{length};
 ghost use Rattle.graph.specs.Graph.{graph};
-ghost use Rattle.paths.specs.Walk.{Filled, FindAsk, Prepared, FirstAsk, First, WalkAsk, Walked, SettleAsk, Settled};
+ghost use Rattle.paths.specs.Walk.{FindAsk, Prepared, FirstAsk, First, WalkAsk, Walked, SettleAsk, Settled};
 use crate::Answer;
 use graph::limits;
 use index::build;
 use paint::distances;
-
-// Every vertex gets the colour a.
-fn fill(w: &mut [u32], b: usize, n: usize, a: u32)
-    requires { ⌜ b + n ≤ length (now w) ⌝ }
-    ensures { λ _. ⌜ Filled b n a (now (w .entry)) (now (w .exit)) ⌝ }
-{
-    let mut v = 0;
-    while v < n {
-        w[b + v] = a;
-        v += 1;
-    }
-}
 
 // Both indexes, and behind them as colours the distances from u: n + 1 is no distance.
 pub fn find(n: usize, sources: &[u32], targets: &[u32], u: usize, w: &mut [u32])
@@ -28,7 +14,7 @@ pub fn find(n: usize, sources: &[u32], targets: &[u32], u: usize, w: &mut [u32])
     build::both(sources, targets, n, w);
     let b = 2 * (n + 1 + sources.len());
     let far = (n + 1) as u32;
-    fill(w, b, n, far);
+    regions::fill(w, b, n, far);
     distances::measure(sources, targets, n, w, 0, b, u, far);
 }
 
