@@ -1,18 +1,20 @@
 -- What the tests of a call give, and how the answers of its parts make the verdict.
 use Prim.Native.Nat.{ℕ, _≤_, _<_}
+use native.Mathlib.Omega.{arith}
 use native.Mathlib.Nat.{suc-ne-zero}
 use mathlib.Core.Path.{_≡_}
 use mathlib.Core.Bool.{Bool, true, false, not}
 use lib.Dec.{T, leb, eqb, leb→le}
 use borrow.Author.Tests.{eqb-true, ne-eqb, lt-ltb, le-ltb, not-false}
 use Rattle.graph.specs.Graph.{Graph, graph, edges}
-use Rattle.graph.specs.Numbers.{least}
 use Rattle.graph.specs.Refusal.{_or_, tableRefusal}
 use Rattle.graph.specs.Checker.{Columns, Sized, at, check1, check5, fault, verdict}
 use Rattle.graph.proofs.Tests.{and-l}
-use Rattle.graph.proofs.Refusals.{or-none, given-none, or-left-none, table-passed, passed-valid}
+use Rattle.graph.proofs.Least.{least-found, least-none}
+use Rattle.graph.proofs.Refusals.{or-none, or-most, given-none, given-most, or-left-none, table-most, Passed, table-passed, passed-valid}
 use Rattle.checker.specs.Contract.{columns, Ready}
-use Rattle.checker.specs.Promise.{Call, wrongSize, checkerRefusal, outcome, promised, Promise, done, refused}
+use Rattle.checker.specs.Promise.{Call, wrongSize, checkerRefusal, edgeVerdict, outcome, promised, Promise, done, refused}
+use Rattle.checker.specs.declared.Verdict.{Verdict}
 use Rattle.checker.specs.declared.Verdict.the-variants.{Accepted, Failed, Refused}
 
 -- a label that passes check 1 is a place of the columns
@@ -21,7 +23,7 @@ unfolding check1
 label-at-most c v e = let t : T (check1 c v) = rw e tt in leb→le _ _ (and-l (leb (at (c .label) v) v) _ t)
 
 -- columns of which none has the wrong size
-pub sized : (n : ℕ) (c : Columns) → wrongSize n c ≡ false → Sized n c
+sized : (n : ℕ) (c : Columns) → wrongSize n c ≡ false → Sized n c
 unfolding wrongSize
 sized n c e =
     let (r5, e6) = or-left-none _ _ e in
@@ -42,39 +44,50 @@ module _ (c : Call) where
   abbrev table-of : Graph
   table-of = graph (c .n) (c .sources) (c .targets)
 
+  pub call-most : checkerRefusal c ≤ 5
+  unfolding checkerRefusal
+  call-most = or-most _ _ 5 (omega (arith, table-most (c .n) (c .sources) (c .targets))) (given-most 5 _ 5 (omega arith))
+
   -- a call that is not refused
+  pub call-passed : checkerRefusal c ≡ 0 → Passed (c .n) (c .sources) (c .targets)
+  unfolding checkerRefusal
+  call-passed e = table-passed (c .n) (c .sources) (c .targets) (or-none (tableRefusal (c .n) (c .sources) (c .targets)) _ e .0)
+
   pub call-ready : checkerRefusal c ≡ 0 → Ready table-of (c .given-columns)
   unfolding checkerRefusal
-  call-ready e =
-      let (e1, e2) = or-none (tableRefusal (c .n) (c .sources) (c .targets)) _ e in
-      record {
-        valid = passed-valid (c .n) (c .sources) (c .targets) (table-passed (c .n) (c .sources) (c .targets) e1);
-        sized = sized (c .n) (c .given-columns) (given-none 5 _ (suc-ne-zero 4) e2);
-      }
+  call-ready e = record {
+    valid = passed-valid (c .n) (c .sources) (c .targets) (call-passed e);
+    sized = sized (c .n) (c .given-columns) (given-none 5 _ (suc-ne-zero 4) (or-none (tableRefusal (c .n) (c .sources) (c .targets)) _ e .1));
+  }
 
   pub refused-promise : (k : ℕ) → k ≡ checkerRefusal c → (k ≡ 0 → ⊥) → Promise c (Refused k)
   unfolding promised outcome
   refused-promise k e o = rw (← e, ne-eqb k 0 o)
 
+  pub judged-promise : (r : Verdict) → checkerRefusal c ≡ 0 → outcome r ≡ done (verdict table-of (c .given-columns)) → Promise c r
+  unfolding promised
+  judged-promise r e q = rw e q
+
+-- the verdict of a loop over the edges, and of one over the vertices
+module _ (g : Graph) (c : Columns) where
   abbrev wrong : ℕ → Bool
-  wrong v = not (eqb (fault table-of (c .given-columns) v) 0)
+  wrong v = not (eqb (fault g c v) 0)
 
   abbrev wrong-edge : ℕ → Bool
-  wrong-edge e = not (check5 table-of (c .given-columns) e)
+  wrong-edge e = not (check5 g c e)
 
-  module _ (fine : checkerRefusal c ≡ 0) where
-    promised-done : promised c ≡ done (verdict table-of (c .given-columns))
-    unfolding promised
-    promised-done = rw fine
+  pub edge-failed : (e : ℕ) → e < edges g → ((j : ℕ) → j < e → wrong-edge j ≡ false) → wrong-edge e ≡ true → outcome (Failed 5 e) ≡ done (edgeVerdict g c)
+  unfolding outcome edgeVerdict
+  edge-failed e l none t = rw (← (least-found (edges g) wrong-edge e l none t), lt-ltb e (edges g) l)
 
-    pub vertex-promise : (v k : ℕ) → v ≡ least (c .n) wrong → v < c .n → k ≡ fault table-of (c .given-columns) v → Promise c (Failed k v)
-    unfolding outcome verdict
-    vertex-promise v k e l f = rw (promised-done, ← e, lt-ltb v (c .n) l, f)
+  pub edges-pass : ((j : ℕ) → j < edges g → wrong-edge j ≡ false) → outcome Accepted ≡ done (edgeVerdict g c)
+  unfolding outcome edgeVerdict
+  edges-pass none = rw (← (least-none (edges g) wrong-edge none), le-ltb (edges g) (edges g) (omega arith))
 
-    pub edge-promise : (v e : ℕ) → v ≡ least (c .n) wrong → c .n ≤ v → e ≡ least (edges table-of) wrong-edge → e < edges table-of → Promise c (Failed 5 e)
-    unfolding outcome verdict
-    edge-promise v e p l q m = rw (promised-done, ← p, le-ltb v (c .n) l, ← q, lt-ltb e (edges table-of) m)
+  pub vertex-failed : (v k : ℕ) → v < g .n → ((j : ℕ) → j < v → wrong j ≡ false) → k ≡ fault g c v → (k ≡ 0 → ⊥) → outcome (Failed k v) ≡ done (verdict g c)
+  unfolding outcome verdict
+  vertex-failed v k l none e o = rw (← (least-found (g .n) wrong v l none (rw (← e, ne-eqb k 0 o))), lt-ltb v (g .n) l, e)
 
-    pub accepted-promise : (v e : ℕ) → v ≡ least (c .n) wrong → c .n ≤ v → e ≡ least (edges table-of) wrong-edge → edges table-of ≤ e → Promise c Accepted
-    unfolding outcome verdict
-    accepted-promise v e p l q m = rw (promised-done, ← p, le-ltb v (c .n) l, ← q, le-ltb e (edges table-of) m)
+  pub vertices-pass : (r : Verdict) → ((j : ℕ) → j < g .n → wrong j ≡ false) → outcome r ≡ done (edgeVerdict g c) → outcome r ≡ done (verdict g c)
+  unfolding verdict edgeVerdict
+  vertices-pass r none q = rw (← (least-none (g .n) wrong none), le-ltb (g .n) (g .n) (omega arith)) q

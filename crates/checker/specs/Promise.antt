@@ -4,11 +4,12 @@ use mathlib.Core.Path.{_≡_}
 use mathlib.Core.Bool.{Bool, cond, not, _||_}
 use mathlib.Core.List.{List}
 use lib.ListN.{length}
-use lib.Dec.{eqb}
-use Rattle.graph.specs.Graph.{graph}
+use lib.Dec.{eqb, ltb}
+use Rattle.graph.specs.Graph.{Graph, graph, edges}
+use Rattle.graph.specs.Numbers.{least}
 use Rattle.graph.specs.Limits.{wrongLength}
 use Rattle.graph.specs.Refusal.{given, _or_, tableRefusal}
-use Rattle.graph.specs.Checker.{Columns, accepted, failed, verdict}
+use Rattle.graph.specs.Checker.{Columns, accepted, check5, failed, verdict}
 use Rattle.graph.specs.Checker as graph-checker
 use Rattle.checker.specs.Contract.{columns}
 use Rattle.checker.specs.declared.Verdict.{Verdict}
@@ -50,6 +51,10 @@ unfoldable pub outcome : Verdict → Outcome
 outcome Accepted = done accepted
 outcome (Failed check place) = done (failed check place)
 outcome (Refused k) = refused k
+
+-- the verdict of check 5 alone
+unfoldable pub edgeVerdict : Graph → Columns → graph-checker.Verdict
+edgeVerdict g c = let e = least (edges g) (λ e. not (check5 g c e)) in cond (ltb e (edges g)) (failed 5 e) accepted
 
 unfoldable pub promised : Call → Outcome
 promised c =

@@ -1,13 +1,9 @@
 // The checker of a certificate: six columns against the edge table, by five checks.
 ghost use mathlib.Core.Path.{_≡_};
-ghost use mathlib.Core.Bool.{not};
-ghost use lib.Dec.{eqb};
-ghost use lib.ListN.{length};
 ghost use Rattle.graph.specs.Graph.{graph};
-ghost use Rattle.graph.specs.Numbers.{least};
-ghost use Rattle.graph.specs.Checker.{check5, fault};
+ghost use Rattle.graph.specs.Checker.{verdict};
 ghost use Rattle.checker.specs.Contract.{labelAndRank, columns, EdgesAsk, Ready};
-ghost use Rattle.checker.specs.Promise.{call, checkerRefusal, Promise};
+ghost use Rattle.checker.specs.Promise.{call, checkerRefusal, done, outcome, edgeVerdict, Promise};
 use graph::limits;
 use graph::table;
 
@@ -23,8 +19,23 @@ pub enum Verdict {
     Refused(u32),
 }
 
-// The first vertex that fails one of checks 1 to 4, or n.
-fn first_vertex(
+// The verdict of check 5 on all edges.
+fn judge_edges(n: usize, sources: &[u32], targets: &[u32], label: &[u32], rank: &[u32]) -> Verdict
+    requires { ⌜ EdgesAsk n (now sources) (now targets) (now label) (now rank) ⌝ }
+    ensures { λ r. ⌜ outcome r ≡ done (edgeVerdict (graph n (now (sources .entry)) (now (targets .entry))) (labelAndRank (now (label .entry)) (now (rank .entry)))) ⌝ }
+{
+    let mut e = 0;
+    while e < sources.len() {
+        if !checks::rises(n, sources, targets, label, rank, e) {
+            return Verdict::Failed { check: 5, place: e };
+        }
+        e += 1;
+    }
+    Verdict::Accepted
+}
+
+// The verdict on columns that are not refused: the vertices by checks 1 to 4, then the edges by check 5.
+fn judge(
     n: usize,
     sources: &[u32],
     targets: &[u32],
@@ -34,9 +45,9 @@ fn first_vertex(
     in_distance: &[u32],
     out_edge: &[u32],
     out_distance: &[u32],
-) -> usize
+) -> Verdict
     requires { ⌜ Ready (graph n (now sources) (now targets)) (columns (now label) (now rank) (now «in_edge») (now «in_distance») (now «out_edge») (now «out_distance»)) ⌝ }
-    ensures { λ r. ⌜ r ≡ least n (λ v. not (eqb (fault (graph n (now (sources .entry)) (now (targets .entry))) (columns (now (label .entry)) (now (rank .entry)) (now («in_edge» .entry)) (now («in_distance» .entry)) (now («out_edge» .entry)) (now («out_distance» .entry))) v) 0)) ⌝ }
+    ensures { λ r. ⌜ outcome r ≡ done (verdict (graph n (now (sources .entry)) (now (targets .entry))) (columns (now (label .entry)) (now (rank .entry)) (now («in_edge» .entry)) (now («in_distance» .entry)) (now («out_edge» .entry)) (now («out_distance» .entry)))) ⌝ }
 {
     let mut v = 0;
     while v < n {
@@ -53,30 +64,15 @@ fn first_vertex(
             v,
         );
         if k != 0 {
-            return v;
+            return Verdict::Failed { check: k, place: v };
         }
         v += 1;
     }
-    n
-}
-
-// The first edge that fails check 5, or the number of edges.
-fn first_edge(n: usize, sources: &[u32], targets: &[u32], label: &[u32], rank: &[u32]) -> usize
-    requires { ⌜ EdgesAsk n (now sources) (now targets) (now label) (now rank) ⌝ }
-    ensures { λ r. ⌜ r ≡ least (length (now (sources .entry))) (λ e. not (check5 (graph n (now (sources .entry)) (now (targets .entry))) (labelAndRank (now (label .entry)) (now (rank .entry))) e)) ⌝ }
-{
-    let mut e = 0;
-    while e < sources.len() {
-        if !checks::rises(n, sources, targets, label, rank, e) {
-            return e;
-        }
-        e += 1;
-    }
-    sources.len()
+    judge_edges(n, sources, targets, label, rank)
 }
 
 // The first of 1 to 5 that applies, else 0.
-fn refusal(
+pub fn refusal(
     n: usize,
     sources: &[u32],
     targets: &[u32],
@@ -114,7 +110,7 @@ fn refusal(
     0
 }
 
-// Accepted, or the first failed check with its place: the vertices by checks 1 to 4, then the edges by check 5.
+// Accepted, or the first failed check with its place.
 pub fn check(
     n: usize,
     sources: &[u32],
@@ -142,7 +138,7 @@ pub fn check(
     if k != 0 {
         return Verdict::Refused(k);
     }
-    let v = first_vertex(
+    judge(
         n,
         sources,
         targets,
@@ -152,25 +148,5 @@ pub fn check(
         in_distance,
         out_edge,
         out_distance,
-    );
-    if v < n {
-        let check = checks::fault(
-            n,
-            sources,
-            targets,
-            label,
-            rank,
-            in_edge,
-            in_distance,
-            out_edge,
-            out_distance,
-            v,
-        );
-        return Verdict::Failed { check, place: v };
-    }
-    let e = first_edge(n, sources, targets, label, rank);
-    if e < sources.len() {
-        return Verdict::Failed { check: 5, place: e };
-    }
-    Verdict::Accepted
+    )
 }

@@ -3,14 +3,14 @@ use mathlib.Core.Bool.{false, not}
 use Prim.Native.Nat.{ℕ, _≤_, _<_, _-_}
 use native.Mathlib.Omega.{arith}
 use lib.Dec.{eqb}
-use borrow.Author.Tests.{ne-eqb}
-use Rattle.graph.specs.Graph.{graph}
-use Rattle.graph.specs.Checker.{fault}
-use Rattle.checker.specs.Contract.{columns}
-use Rattle.graph.proofs.Least.{least-found, least-none}
 use borrow.Author.Count.{below-more}
-use Rattle.checker.proofs.first_vertex.Statement.{statement}
-use Rattle.checker.proofs.first_vertex.Tie as tie
+use Rattle.graph.specs.Graph.{graph}
+use Rattle.graph.specs.Checker.{check5, fault}
+use Rattle.checker.specs.Contract.{columns}
+use Rattle.checker.specs.Promise.{edgeVerdict}
+use Rattle.checker.proofs.Laws.{vertex-failed, vertices-pass}
+use Rattle.checker.proofs.judge.Statement.{statement}
+use Rattle.checker.proofs.judge.Tie as tie
 
 abbrev Inv-loop : tie.InvT-loop
 Inv-loop n sources targets label rank in-edge in-distance out-edge out-distance v₀ v = (v ≤ n) × ((j : ℕ) → j < v → not (eqb (fault (graph n sources targets) (columns label rank in-edge in-distance out-edge out-distance) j) 0) ≡ false)
@@ -31,13 +31,10 @@ returns c =
     let at-fault = c .before in
     let at-loop-test = at-fault .before in
     let at-loop = at-loop-test .before in
-    let start = at-loop .before .before .before .before .before .before .before .before .before in
-    least-found (start .args .n) (λ (v : ℕ). not (eqb (fault (graph (start .args .n) (start .args .sources .now) (start .args .targets .now)) (columns (start .args .label .now) (start .args .rank .now) (start .args .in-edge .now) (start .args .in-distance .now) (start .args .out-edge .now) (start .args .out-distance .now)) v) 0)) (at-loop .loop .v) (at-loop-test .loop-test .taken) (at-loop .loop .inv .1) (rw (← (at-fault .fault .ensures), ne-eqb _ 0 (c .if1 .taken)))
+    vertex-failed _ _ (at-loop .loop .v) _ (at-loop-test .loop-test .taken) (at-loop .loop .inv .1) (at-fault .fault .ensures) (c .if1 .taken)
 
 add-v : tie.Need-add-v Inv-loop μ-loop
-add-v c =
-    let at-loop-test = c .before .before in
-    omega (arith, at-loop-test .loop-test .taken)
+add-v c = omega (arith, c .before .before .loop-test .taken)
 
 loop-less : tie.Need-loop-less Inv-loop μ-loop
 loop-less c = omega arith
@@ -48,14 +45,19 @@ loop-again c =
     let at-loop = at-fault .before .before in
     (omega arith, below-more _ _ (at-loop .loop .inv .1) (rw (← (at-fault .fault .ensures), c .if1 .left)))
 
-returns-2 : tie.Need-returns-2 Inv-loop μ-loop
-returns-2 c =
-    let at-loop = c .before in
-    let start = at-loop .before .before .before .before .before .before .before .before .before in
-    least-none (start .args .n) (λ (v : ℕ). not (eqb (fault (graph (start .args .n) (start .args .sources .now) (start .args .targets .now)) (columns (start .args .label .now) (start .args .rank .now) (start .args .in-edge .now) (start .args .in-distance .now) (start .args .out-edge .now) (start .args .out-distance .now)) v) 0)) (λ j h. at-loop .loop .inv .1 j (omega arith))
+judge-edges-requires : tie.Need-judge-edges-requires Inv-loop μ-loop
+judge-edges-requires c κs =
+    let start = c .before .before .before .before .before .before .before .before .before .before in
+    record { valid = start .pre .valid; label-size = start .pre .sized .label; rank-size = start .pre .sized .rank }
 
-pub first-vertex-spec : {M : Type 1} → statement M
-first-vertex-spec =
+returns-2 : tie.Need-returns-2 Inv-loop μ-loop
+unfolding check5 edgeVerdict
+returns-2 c =
+    let at-loop = c .before .before in
+    vertices-pass _ _ _ (λ j h. at-loop .loop .inv .1 j (omega arith)) (c .judge-edges .ensures)
+
+pub judge-spec : {M : Type 1} → statement M
+judge-spec =
     tie.close
     (tie.spec
     Inv-loop
@@ -66,4 +68,5 @@ first-vertex-spec =
     add-v
     loop-less
     loop-again
+    judge-edges-requires
     returns-2)

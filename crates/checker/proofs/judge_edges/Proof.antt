@@ -3,13 +3,13 @@ use mathlib.Core.Bool.{false, not}
 use Prim.Native.Nat.{ℕ, _≤_, _<_, _-_}
 use native.Mathlib.Omega.{arith}
 use lib.ListN.{length}
+use borrow.Author.Count.{below-more}
 use Rattle.graph.specs.Graph.{graph}
 use Rattle.graph.specs.Checker.{check5}
 use Rattle.checker.specs.Contract.{labelAndRank}
-use Rattle.graph.proofs.Least.{least-found, least-none}
-use borrow.Author.Count.{below-more}
-use Rattle.checker.proofs.first_edge.Statement.{statement}
-use Rattle.checker.proofs.first_edge.Tie as tie
+use Rattle.checker.proofs.Laws.{edge-failed, edges-pass}
+use Rattle.checker.proofs.judge_edges.Statement.{statement}
+use Rattle.checker.proofs.judge_edges.Tie as tie
 
 abbrev Inv-loop : tie.InvT-loop
 Inv-loop n sources targets label rank e₀ e = (e ≤ length sources) × ((j : ℕ) → j < e → not (check5 (graph n sources targets) (labelAndRank label rank) j) ≡ false)
@@ -30,13 +30,10 @@ returns c =
     let at-rises = c .before in
     let at-loop-test = at-rises .before in
     let at-loop = at-loop-test .before in
-    let start = at-loop .before .before .before .before .before in
-    least-found (length (start .args .sources .now)) (λ (e : ℕ). not (check5 (graph (start .args .n) (start .args .sources .now) (start .args .targets .now)) (labelAndRank (start .args .label .now) (start .args .rank .now)) e)) (at-loop .loop .e) (at-loop-test .loop-test .taken) (at-loop .loop .inv .1) (rw (← (at-rises .rises .ensures), c .if1 .taken))
+    edge-failed _ _ (at-loop .loop .e) (at-loop-test .loop-test .taken) (at-loop .loop .inv .1) (rw (← (at-rises .rises .ensures), c .if1 .taken))
 
 add-e : tie.Need-add-e Inv-loop μ-loop
-add-e c =
-    let at-loop-test = c .before .before in
-    omega (arith, at-loop-test .loop-test .taken)
+add-e c = omega (arith, c .before .before .loop-test .taken)
 
 loop-less : tie.Need-loop-less Inv-loop μ-loop
 loop-less c = omega arith
@@ -48,13 +45,10 @@ loop-again c =
     (omega arith, below-more _ _ (at-loop .loop .inv .1) (rw (← (at-rises .rises .ensures), c .if1 .left)))
 
 returns-2 : tie.Need-returns-2 Inv-loop μ-loop
-returns-2 c =
-    let at-loop = c .before in
-    let start = at-loop .before .before .before .before .before in
-    least-none (length (start .args .sources .now)) (λ (e : ℕ). not (check5 (graph (start .args .n) (start .args .sources .now) (start .args .targets .now)) (labelAndRank (start .args .label .now) (start .args .rank .now)) e)) (λ j h. at-loop .loop .inv .1 j (omega arith))
+returns-2 c = edges-pass _ _ (λ j h. c .before .loop .inv .1 j (omega arith))
 
-pub first-edge-spec : {M : Type 1} → statement M
-first-edge-spec =
+pub judge-edges-spec : {M : Type 1} → statement M
+judge-edges-spec =
     tie.close
     (tie.spec
     Inv-loop
