@@ -11,6 +11,7 @@ use borrow.Author.Tests.{eq-eqb, ne-eqb, lt-ltb, eqb-true}
 use Rattle.graph.specs.Graph.{Graph, Valid, Edge, Chain, stay, edges, from, to}
 use Rattle.graph.specs.Numbers.{least}
 use Rattle.graph.specs.Checker.{at, noEdge, entry}
+use Rattle.graph.proofs.Tests.{T-true}
 use Rattle.graph.proofs.Chains.{chain-end, chain-last, chain-snoc, chain-still, edge-from-low}
 use Rattle.graph.proofs.Least.{least-found}
 use Rattle.classes.specs.Classes.{class, OwnLabels, Distances}
@@ -91,10 +92,6 @@ module _ {g : Graph} (ok : Valid g) (lab : List ℕ) (own : OwnLabels (g .n) lab
           rw (lt-ltb e (edges g) m, c, ← (same v l), ← (same (from g e) lx), lt-ltb (d v) (g .n) (low v l))
           (and-true (eqb (to g e) v) (eqb (at lab (from g e)) (at lab v)) (eqb (d v) (d (from g e) + 1)))
         where
-          T-true : (b : Bool) → T b → b ≡ true
-          T-true true t = refl
-          T-true false t = absurd t
-
           and-true : (a b c : Bool) → (a && b && true && c) ≡ (a && b && c)
           and-true true true c = refl
           and-true true false c = refl

@@ -16,6 +16,7 @@ use Rattle.graph.specs.Certificate.{Right, certificate, distOf, rankOf, distanc
 use Rattle.graph.proofs.Tests.{getD-table}
 use Rattle.graph.proofs.Chains.{valid-rev, label-rev}
 use Rattle.index.specs.Build.{BothAsk, Both}
+use Rattle.index.proofs.Asks.{valid-both}
 use Rattle.index.proofs.Moved.{indexed-kept}
 use Rattle.classes.specs.Classes.{class, OwnLabels, Distances}
 use Rattle.regions.specs.Regions.{region, inDistances, outDistances, inEdges, outEdges, ranksAt, countsAt}
@@ -39,13 +40,7 @@ module _ {n : ℕ} {sources targets lab : List ℕ} {b : ℕ} {w : List ℕ} (a 
   g = graph n sources targets
 
   pub both-ask : BothAsk sources targets n w
-  both-ask =
-      record {
-        forward = record { below = a .ask .valid .from-low; small = omega (arith, a .ask .small); few = omega (arith, a .ask .few) };
-        reverse = record { below = λ e m. a .ask .valid .to-low e (omega (arith, a .ask .valid .same)); small = omega (arith, a .ask .small); few = omega (arith, a .ask .few, a .ask .valid .same) };
-        even = a .ask .valid .same;
-        room = omega (arith, a .ask .room);
-      }
+  both-ask = valid-both (a .ask .valid) (a .ask .small) (a .ask .few) (omega (arith, a .ask .room))
 
   module _ (w₁ : List ℕ) (x : Both sources targets n w w₁) where
     pub there-ask : DistancesAsk g lab 0 b w₁

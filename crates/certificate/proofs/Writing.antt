@@ -10,56 +10,45 @@ use mathlib.Core.List.{List}
 use lib.ListN.{length, getD}
 use lib.Seq.{ext-getD}
 use lib.Dec.{T, eqb}
-use borrow.Author.Tests.{ltb-false, not-false, eq-eqb, ne-eqb, not-true}
+use borrow.Author.Tests.{not-false, eq-eqb, ne-eqb, not-true}
 use Rattle.graph.specs.Graph.{Valid}
 use Rattle.graph.specs.Numbers.{some-below}
 use Rattle.graph.specs.Search.{labelOf, labels}
-use Rattle.graph.specs.Limits.{wrongLabels, numbersNeeded, wordsNeeded}
-use Rattle.graph.specs.Refusal.{given, _or_, tableRefusal}
+use Rattle.graph.specs.Limits.{wrongLabels, numbersNeeded, Enough}
+use Rattle.graph.specs.Refusal.{given, _or_}
+use Rattle.graph.specs.Memory.{ClearAsk, Cleared}
 use Rattle.graph.specs.Checker.{Columns, Sized, at}
 use Rattle.graph.specs.Certificate.{Right, certificate, ranks, distances, entries}
-use Rattle.graph.proofs.Tests.{some-below-iff, length-table}
+use Rattle.graph.proofs.Tests.{no-T, some-below-iff, length-table}
 use Rattle.graph.proofs.Search.{label-is, label-eq}
-use Rattle.graph.proofs.Refusals.{or-stop, or-pass, or-none, given-none, or-left-none, Passed, table-passed, passed-valid}
+use Rattle.graph.proofs.Refusals.{or-stop, or-none, or-most, given-none, given-most, not-lacking, Passed, passed-valid}
+use Rattle.graph.proofs.Memory.{zeroed-after}
 use Rattle.regions.specs.Regions.{Copied}
-use Rattle.checker.proofs.Laws.{sized}
-use Rattle.certificate.specs.Work.{base, Beyond, WorkAsk, Made, Worked, HandAsk, Handed, ClearAsk, Cleared}
+use Rattle.checker.specs.Promise.{checkerRefusal}
+use Rattle.checker.proofs.Laws.{call-most, call-passed, call-ready}
+use Rattle.certificate.specs.Work.{base, Beyond, WorkAsk, Made, Worked, HandAsk, Handed}
 use Rattle.classes.proofs.Classing.{clash}
-use Rattle.certificate.specs.Promise.{lent, Call, call, table, columns, wrongLabel, earlyRefusal, writerRefusal, Promise}
+use Rattle.certificate.specs.Promise.{lent, Call, call, table, columns, checked, wrongLabel, earlyRefusal, writerRefusal, Promise}
 
 -- what a call has that is not refused by 1 to 6
 pub record Ready (c : Call) : Type 0 where
   pub passed : Passed (c .n) (c .sources) (c .targets)
   pub sized : Sized (c .n) (columns (c .label) (c .lends))
-  pub numbers-room : numbersNeeded (c .n) (length (c .sources)) ≤ length (c .lends .numbers)
-  pub words-room : wordsNeeded (c .n) ≤ length (c .lends .words)
-
-given-low : (k : ℕ) (b : Bool) (x : ℕ) → k ≤ x → given k b ≤ x
-unfolding given
-given-low k true x l = l
-given-low k false x l = omega arith
-
-or-low : (a b x : ℕ) → a ≤ x → b ≤ x → (a or b) ≤ x
-or-low a b x l m = by-cases (ℕ-discrete a 0) (λ q. rw (or-pass a b q) m) (λ o. rw (or-stop a b o) l)
+  pub memory : Enough (c .n) (length (c .sources)) (length (c .lends .numbers)) (length (c .lends .words))
 
 module _ (c : Call) where
   pub early-low : earlyRefusal c ≤ 6
-  unfolding earlyRefusal tableRefusal
-  early-low =
-      or-low _ _ 6 (or-low _ _ 6 (given-low 1 _ 6 (omega arith)) (or-low _ _ 6 (given-low 2 _ 6 (omega arith)) (or-low _ _ 6 (given-low 3 _ 6 (omega arith)) (given-low 4 _ 6 (omega arith)))))
-      (or-low _ _ 6 (given-low 5 _ 6 (omega arith)) (given-low 6 _ 6 (omega arith)))
+  unfolding earlyRefusal
+  early-low = or-most _ _ 6 (omega (arith, call-most (checked c))) (given-most 6 _ 6 (omega arith))
 
   pub early-ready : earlyRefusal c ≡ 0 → Ready c
   unfolding earlyRefusal
   early-ready e =
-      let (e1, r) = or-none (tableRefusal (c .n) (c .sources) (c .targets)) _ e in
-      let (e5, e6) = or-none _ _ r in
-      let (s, t) = or-left-none _ _ (given-none 6 _ (suc-ne-zero 5) e6) in
+      let (e5, e6) = or-none (checkerRefusal (checked c)) _ e in
       record {
-        passed = table-passed (c .n) (c .sources) (c .targets) e1;
-        sized = sized (c .n) (columns (c .label) (c .lends)) (given-none 5 _ (suc-ne-zero 4) e5);
-        numbers-room = ltb-false _ _ s;
-        words-room = ltb-false _ _ t;
+        passed = call-passed (checked c) e5;
+        sized = call-ready (checked c) e5 .sized;
+        memory = not-lacking (c .n) (length (c .sources)) (length (c .lends .numbers)) (length (c .lends .words)) (given-none 6 _ (suc-ne-zero 5) e6);
       }
 
   pub refused-promise : (k : ℕ) → k ≡ earlyRefusal c → (k ≡ 0 → ⊥) → Promise c k (c .lends)
@@ -87,17 +76,20 @@ module _ (c : Call) where
           size = ready .sized .label;
           small = ready .passed .small;
           few = ready .passed .few;
-          room = ready .numbers-room;
+          room = ready .memory .numbers;
         }
 
     pub clear-ask : (w : List ℕ) → length w ≡ length (c .lends .numbers) → ClearAsk (c .n) (length (c .sources)) w (c .lends .words)
     clear-ask w q =
-        record { small = ready .passed .small; few = ready .passed .few; numbers-room = omega (arith, ready .numbers-room); words-room = ready .words-room }
+        record {
+          limits = record { small = ready .passed .small; few = ready .passed .few };
+          enough = record { numbers = omega (arith, ready .memory .numbers); words = ready .memory .words };
+        }
 
     pub hand-ask : (w : List ℕ) → length w ≡ length (c .lends .numbers) → HandAsk (c .n) (base (table c)) w (c .lends .rank) (c .lends .inEdge) (c .lends .inDist) (c .lends .outEdge) (c .lends .outDist)
     hand-ask w q =
         record {
-          room = omega (arith, ready .numbers-room);
+          room = omega (arith, ready .memory .numbers);
           rank-size = ready .sized .rank;
           inEdge-size = ready .sized .inEdge;
           inDist-size = ready .sized .inDist;
@@ -108,14 +100,10 @@ module _ (c : Call) where
     -- right labels are those that the test lets pass
     right-passes : Right (table c) (c .label) → wrongLabel (table c) (c .label) ≡ false
     unfolding wrongLabel
-    right-passes right = none (some-below (c .n) _) (λ t.
+    right-passes right = no-T (some-below (c .n) _) (λ t.
         let (v, l, s) = some-below-iff (c .n) (λ v. not (eqb (at (c .label) v) (labelOf (table c) v))) .0 t in
         not-both (eqb (at (c .label) v) (labelOf (table c) v)) (eq-eqb _ _ (label-eq valid l (right v l))) s)
       where
-        none : (b : Bool) → (T b → ⊥) → b ≡ false
-        none true o = absurd (o tt)
-        none false o = refl
-
         not-both : (b : Bool) → b ≡ true → T (not b) → ⊥
         not-both true q t = t
         not-both false q t = let z : _≡_ {A = ℕ} 0 1 = cc in omega arith
@@ -140,16 +128,7 @@ module _ (c : Call) where
     -- the working memory is zeroed after the stages
     tidy : (w w′ words′ : List ℕ) → Beyond (numbersNeeded (c .n) (length (c .sources))) (c .lends .numbers) w → Cleared (c .n) (length (c .sources)) w w′ (c .lends .words) words′
         → Cleared (c .n) (length (c .sources)) (c .lends .numbers) w′ (c .lends .words) words′
-    tidy w w′ words′ f x =
-        record {
-          numbers-zero =
-              record {
-                long = x .numbers-zero .long ∙ f .long;
-                front = x .numbers-zero .front;
-                rest = λ j l. x .numbers-zero .rest j l ∙ f .rest j l;
-              };
-          words-zero = x .words-zero;
-        }
+    tidy w w′ words′ f x = record { numbers-zero = zeroed-after (f .long) (f .rest) (x .numbers-zero); words-zero = x .words-zero }
 
     pub wrong-promise : (r : Bool) (w w′ words′ : List ℕ) → Worked (table c) (c .label) (base (table c)) (c .lends .numbers) w r → not r ≡ true
         → Cleared (c .n) (length (c .sources)) w w′ (c .lends .words) words′

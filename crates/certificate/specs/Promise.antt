@@ -1,19 +1,20 @@
 -- What the certificate writer promises.
 use Prim.Native.Nat.{ℕ}
 use mathlib.Core.Path.{_≡_}
-use mathlib.Core.Bool.{Bool, not, _||_}
+use mathlib.Core.Bool.{Bool, not}
 use mathlib.Core.List.{List}
 use lib.ListN.{length}
-use lib.Dec.{eqb, ltb}
+use lib.Dec.{eqb}
 use Rattle.graph.specs.Graph.{Graph, graph}
 use Rattle.graph.specs.Numbers.{some-below}
 use Rattle.graph.specs.Search.{labelOf}
-use Rattle.graph.specs.Limits.{wrongLength, memoryShort, wrongLabels, numbersNeeded, wordsNeeded}
-use Rattle.graph.specs.Refusal.{given, _or_, tableRefusal}
+use Rattle.graph.specs.Limits.{memoryShort, wrongLabels}
+use Rattle.graph.specs.Refusal.{given, _or_, lacking}
 use Rattle.graph.specs.Checker.{Columns, at}
 use Rattle.graph.specs.Certificate.{certificate}
-use Rattle.checker.specs.Promise.{wrongSize}
-use Rattle.certificate.specs.Work.{Cleared}
+use Rattle.graph.specs.Memory.{Cleared}
+use Rattle.checker.specs.Promise.{checkerRefusal}
+use Rattle.checker.specs.Promise as checker
 
 -- what is lent to be written
 pub record Lent : Type 0 where
@@ -52,12 +53,14 @@ columns label l =
 unfoldable pub wrongLabel : Graph → List ℕ → Bool
 wrongLabel g lab = some-below (g .n) (λ v. not (eqb (at lab v) (labelOf g v)))
 
+-- the table and the columns as the checker tests them
+abbrev pub checked : Call → checker.Call
+checked c = record { n = c .n; sources = c .sources; targets = c .targets; given-columns = columns (c .label) (c .lends) }
+
 -- the first of 1 to 6 that applies, else 0
 unfoldable pub earlyRefusal : Call → ℕ
 earlyRefusal c =
-    tableRefusal (c .n) (c .sources) (c .targets)
-    or given wrongLength (wrongSize (c .n) (columns (c .label) (c .lends)))
-    or given memoryShort (ltb (length (c .lends .numbers)) (numbersNeeded (c .n) (length (c .sources))) || ltb (length (c .lends .words)) (wordsNeeded (c .n)))
+    checkerRefusal (checked c) or given memoryShort (lacking (c .n) (length (c .sources)) (length (c .lends .numbers)) (length (c .lends .words)))
 
 -- the first of 1 to 6 and 10 that applies, else 0
 unfoldable pub writerRefusal : Call → ℕ

@@ -6,8 +6,7 @@ use mathlib.Core.List.{List}
 use mathlib.Core.Logic.{_⊎_}
 use lib.ListN.{length, getD}
 use Rattle.graph.specs.Graph.{Graph, Valid, rev, edges}
-use Rattle.graph.specs.Limits.{mostVertices, mostEdges, numbersNeeded, wordsNeeded}
-use Rattle.graph.specs.Memory.{Zeroed}
+use Rattle.graph.specs.Limits.{mostVertices, mostEdges, numbersNeeded}
 use Rattle.graph.specs.Checker.{at}
 use Rattle.graph.specs.Certificate.{Right, certificate}
 use Rattle.index.specs.Index.{Indexed}
@@ -97,13 +96,3 @@ pub record Handed (n b : ℕ) (w rank rank' inEdge inEdge' inDist inDist' outEdg
   pub to-inDist : Copied w (inDistances n b) inDist inDist'
   pub to-outEdge : Copied w (outEdges n b) outEdge outEdge'
   pub to-outDist : Copied w (outDistances n b) outDist outDist'
-
-pub record ClearAsk (n m : ℕ) (numbers words : List ℕ) : Type 0 where
-  pub small : n ≤ mostVertices
-  pub few : m ≤ mostEdges
-  pub numbers-room : numbersNeeded n m ≤ length numbers
-  pub words-room : wordsNeeded n ≤ length words
-
-pub record Cleared (n m : ℕ) (numbers numbers' words words' : List ℕ) : Type 0 where
-  pub numbers-zero : Zeroed (numbersNeeded n m) numbers numbers'
-  pub words-zero : Zeroed (wordsNeeded n) words words'

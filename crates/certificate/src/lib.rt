@@ -1,9 +1,9 @@
 // The certificate writer: it reads the labels and fills the other five columns.
 ghost use mathlib.Core.Path.{_≡_};
-ghost use Rattle.certificate.specs.Work.{ClearAsk, Cleared, HandAsk, Handed};
+ghost use Rattle.certificate.specs.Work.{HandAsk, Handed};
 ghost use Rattle.certificate.specs.Promise.{lent, call, earlyRefusal, Promise};
 use graph::limits;
-use graph::table;
+use index::memory;
 
 mod entries;
 mod work;
@@ -24,32 +24,21 @@ fn refusal(
 ) -> u32
     ensures { λ r. ⌜ r ≡ earlyRefusal (call n (now (sources .entry)) (now (targets .entry)) (now (label .entry)) (lent (now (rank .entry)) (now («in_edge» .entry)) (now («in_distance» .entry)) (now («out_edge» .entry)) (now («out_distance» .entry)) (now (numbers .entry)) (now (words .entry)))) ⌝ }
 {
-    let k = table::check(n, sources, targets);
+    let k = checker::refusal(
+        n,
+        sources,
+        targets,
+        label,
+        rank,
+        in_edge,
+        in_distance,
+        out_edge,
+        out_distance,
+    );
     if k != 0 {
         return k;
     }
-    if label.len() != n {
-        return limits::WRONG_LENGTH;
-    }
-    if rank.len() != n {
-        return limits::WRONG_LENGTH;
-    }
-    if in_edge.len() != n {
-        return limits::WRONG_LENGTH;
-    }
-    if in_distance.len() != n {
-        return limits::WRONG_LENGTH;
-    }
-    if out_edge.len() != n {
-        return limits::WRONG_LENGTH;
-    }
-    if out_distance.len() != n {
-        return limits::WRONG_LENGTH;
-    }
-    if numbers.len() < 12 * n + 2 * sources.len() + 16 {
-        return limits::MEMORY_SHORT;
-    }
-    if words.len() < 6 * ((n + 63) / 64) {
+    if limits::lacking(n, sources.len(), numbers.len(), words.len()) {
         return limits::MEMORY_SHORT;
     }
     0
@@ -74,15 +63,6 @@ fn hand(
     regions::copy(numbers, b, in_distance);
     regions::copy(numbers, b + 4 * n, out_edge);
     regions::copy(numbers, b + n, out_distance);
-}
-
-// The working memory that a call needs becomes zero.
-fn clear(n: usize, m: usize, numbers: &mut [u32], words: &mut [u64])
-    requires { ⌜ ClearAsk n m (now numbers) (now words) ⌝ }
-    ensures { λ _. ⌜ Cleared n m (now (numbers .entry)) (now (numbers .exit)) (now (words .entry)) (now (words .exit)) ⌝ }
-{
-    index::memory::zero_numbers(numbers, 12 * n + 2 * m + 16);
-    index::memory::zero_words(words, 6 * ((n + 63) / 64));
 }
 
 // Five columns from the labels: shortest distances from and to the label, the smallest edges that fit them, the ranks. The number returned.
@@ -119,7 +99,7 @@ pub fn write(
     }
     let m = sources.len();
     if !work::work(sources, targets, n, label, numbers) {
-        clear(n, m, numbers, words);
+        memory::clear(n, m, numbers, words);
         return limits::WRONG_LABELS;
     }
     hand(
@@ -132,6 +112,6 @@ pub fn write(
         out_edge,
         out_distance,
     );
-    clear(n, m, numbers, words);
+    memory::clear(n, m, numbers, words);
     0
 }

@@ -1,170 +1,38 @@
-use mathlib.Core.Path.{sym, _∙_}
-use Prim.Native.Nat.{_-_}
-use native.Mathlib.Omega.{arith}
-use borrow.Author.Needs.{needs}
-use borrow.Author.Tests.{eq-eqb, ne-eqb, lt-ltb, le-ltb}
-use Rattle.graph.proofs.Refusals.{or-stop, table-passed}
+use mathlib.Core.Path.{_≡_, sym, _∙_}
 use Rattle.graph.specs.Refusal.{given, _or_}
-use Rattle.checker.specs.Promise.{wrongSize}
+use Rattle.graph.proofs.Refusals.{or-stop}
+use Rattle.checker.specs.Promise.{Call, call, checkerRefusal}
+use Rattle.checker.proofs.Laws.{call-passed}
 use Rattle.certificate.specs.Promise.{earlyRefusal}
+use borrow.Author.Needs.{needs}
 use Rattle.certificate.proofs.refusal.Statement.{statement}
 use Rattle.certificate.proofs.refusal.Tie as tie
 
-check-requires : tie.Need-check-requires
-check-requires c κs = search needs
+abbrev asked : tie.After-refusal → Call
+asked c =
+    let s = c .before .before .before .before .before .before .before .before .before .before .before in
+    call (s .args .n) (s .args .sources .now) (s .args .targets .now) (s .args .label .now) (s .args .rank .now) (s .args .in-edge .now) (s .args .in-distance .now) (s .args .out-edge .now) (s .args .out-distance .now)
+
+pass : (c : tie.Else1) → checkerRefusal (asked (c .before)) ≡ 0
+pass c = sym (c .before .refusal .ensures) ∙ c .if1 .left
+
+refusal-requires : tie.Need-refusal-requires
+refusal-requires c κs = search needs
 
 returns : tie.Need-returns
 unfolding earlyRefusal
-returns c =
-    let at-check = c .before in
-    rw (← (at-check .check .ensures), or-stop _ _ (c .if1 .taken))
+returns c = rw (← (c .before .refusal .ensures), or-stop _ _ (c .if1 .taken))
+
+lacking-requires : tie.Need-lacking-requires
+lacking-requires c κs = let p = call-passed (asked (c .before)) (pass c) in record { small = p .small; few = p .few }
 
 returns-2 : tie.Need-returns-2
-unfolding earlyRefusal wrongSize given _or_
-returns-2 c =
-    let at-if1 = c .before in
-    let at-check = at-if1 .before in
-    rw (← (at-check .check .ensures), at-if1 .if1 .left, ne-eqb _ _ (c .if2 .taken))
+unfolding earlyRefusal given _or_
+returns-2 c = rw (pass (c .before .before), sym (c .before .lacking .ensures) ∙ c .if2 .taken)
 
 returns-3 : tie.Need-returns-3
-unfolding earlyRefusal wrongSize given _or_
-returns-3 c =
-    let at-if2 = c .before in
-    let at-if1 = at-if2 .before in
-    let at-check = at-if1 .before in
-    rw (← (at-check .check .ensures), at-if1 .if1 .left, eq-eqb _ _ (at-if2 .if2 .left), ne-eqb _ _ (c .if3 .taken))
-
-returns-4 : tie.Need-returns-4
-unfolding earlyRefusal wrongSize given _or_
-returns-4 c =
-    let at-if3 = c .before in
-    let at-if2 = at-if3 .before in
-    let at-if1 = at-if2 .before in
-    let at-check = at-if1 .before in
-    rw (← (at-check .check .ensures), at-if1 .if1 .left, eq-eqb _ _ (at-if2 .if2 .left), eq-eqb _ _ (at-if3 .if3 .left), ne-eqb _ _ (c .if4 .taken))
-
-returns-5 : tie.Need-returns-5
-unfolding earlyRefusal wrongSize given _or_
-returns-5 c =
-    let at-if4 = c .before in
-    let at-if3 = at-if4 .before in
-    let at-if2 = at-if3 .before in
-    let at-if1 = at-if2 .before in
-    let at-check = at-if1 .before in
-    rw (← (at-check .check .ensures), at-if1 .if1 .left, eq-eqb _ _ (at-if2 .if2 .left), eq-eqb _ _ (at-if3 .if3 .left), eq-eqb _ _ (at-if4 .if4 .left), ne-eqb _ _ (c .if5 .taken))
-
-returns-6 : tie.Need-returns-6
-unfolding earlyRefusal wrongSize given _or_
-returns-6 c =
-    let at-if5 = c .before in
-    let at-if4 = at-if5 .before in
-    let at-if3 = at-if4 .before in
-    let at-if2 = at-if3 .before in
-    let at-if1 = at-if2 .before in
-    let at-check = at-if1 .before in
-    rw (← (at-check .check .ensures), at-if1 .if1 .left, eq-eqb _ _ (at-if2 .if2 .left), eq-eqb _ _ (at-if3 .if3 .left), eq-eqb _ _ (at-if4 .if4 .left), eq-eqb _ _ (at-if5 .if5 .left), ne-eqb _ _ (c .if6 .taken))
-
-returns-7 : tie.Need-returns-7
-unfolding earlyRefusal wrongSize given _or_
-returns-7 c =
-    let at-if6 = c .before in
-    let at-if5 = at-if6 .before in
-    let at-if4 = at-if5 .before in
-    let at-if3 = at-if4 .before in
-    let at-if2 = at-if3 .before in
-    let at-if1 = at-if2 .before in
-    let at-check = at-if1 .before in
-    rw (← (at-check .check .ensures), at-if1 .if1 .left, eq-eqb _ _ (at-if2 .if2 .left), eq-eqb _ _ (at-if3 .if3 .left), eq-eqb _ _ (at-if4 .if4 .left), eq-eqb _ _ (at-if5 .if5 .left), eq-eqb _ _ (at-if6 .if6 .left), ne-eqb _ _ (c .if7 .taken))
-
-mul-if8 : tie.Need-mul-if8
-mul-if8 c =
-    let at-if1 = c .before .before .before .before .before .before in
-    let at-check = at-if1 .before in
-    let start = at-check .before .before .before .before .before .before .before .before .before .before .before in
-    omega (arith, table-passed (start .args .n) (start .args .sources .now) (start .args .targets .now) (sym (at-check .check .ensures) ∙ at-if1 .if1 .left) .small, table-passed (start .args .n) (start .args .sources .now) (start .args .targets .now) (sym (at-check .check .ensures) ∙ at-if1 .if1 .left) .few)
-
-mul-if8-2 : tie.Need-mul-if8-2
-mul-if8-2 c = search needs
-
-add-if8 : tie.Need-add-if8
-add-if8 c =
-    let at-if1 = c .before .before .before .before .before .before in
-    let at-check = at-if1 .before in
-    let start = at-check .before .before .before .before .before .before .before .before .before .before .before in
-    omega (arith, table-passed (start .args .n) (start .args .sources .now) (start .args .targets .now) (sym (at-check .check .ensures) ∙ at-if1 .if1 .left) .small, table-passed (start .args .n) (start .args .sources .now) (start .args .targets .now) (sym (at-check .check .ensures) ∙ at-if1 .if1 .left) .few)
-
-add-if8-2 : tie.Need-add-if8-2
-add-if8-2 c =
-    let at-if1 = c .before .before .before .before .before .before in
-    let at-check = at-if1 .before in
-    let start = at-check .before .before .before .before .before .before .before .before .before .before .before in
-    omega (arith, table-passed (start .args .n) (start .args .sources .now) (start .args .targets .now) (sym (at-check .check .ensures) ∙ at-if1 .if1 .left) .small, table-passed (start .args .n) (start .args .sources .now) (start .args .targets .now) (sym (at-check .check .ensures) ∙ at-if1 .if1 .left) .few)
-
-returns-8 : tie.Need-returns-8
-unfolding earlyRefusal wrongSize given _or_
-returns-8 c =
-    let at-if7 = c .before in
-    let at-if6 = at-if7 .before in
-    let at-if5 = at-if6 .before in
-    let at-if4 = at-if5 .before in
-    let at-if3 = at-if4 .before in
-    let at-if2 = at-if3 .before in
-    let at-if1 = at-if2 .before in
-    let at-check = at-if1 .before in
-    rw (← (at-check .check .ensures), at-if1 .if1 .left, eq-eqb _ _ (at-if2 .if2 .left), eq-eqb _ _ (at-if3 .if3 .left), eq-eqb _ _ (at-if4 .if4 .left), eq-eqb _ _ (at-if5 .if5 .left), eq-eqb _ _ (at-if6 .if6 .left), eq-eqb _ _ (at-if7 .if7 .left), lt-ltb _ _ (c .if8 .taken))
-
-add-if9 : tie.Need-add-if9
-add-if9 c = search needs
-
-mul-if9 : tie.Need-mul-if9
-mul-if9 c = search needs
-
-returns-9 : tie.Need-returns-9
-unfolding earlyRefusal wrongSize given _or_
-returns-9 c =
-    let at-if8 = c .before in
-    let at-if7 = at-if8 .before in
-    let at-if6 = at-if7 .before in
-    let at-if5 = at-if6 .before in
-    let at-if4 = at-if5 .before in
-    let at-if3 = at-if4 .before in
-    let at-if2 = at-if3 .before in
-    let at-if1 = at-if2 .before in
-    let at-check = at-if1 .before in
-    rw (← (at-check .check .ensures), at-if1 .if1 .left, eq-eqb _ _ (at-if2 .if2 .left), eq-eqb _ _ (at-if3 .if3 .left), eq-eqb _ _ (at-if4 .if4 .left), eq-eqb _ _ (at-if5 .if5 .left), eq-eqb _ _ (at-if6 .if6 .left), eq-eqb _ _ (at-if7 .if7 .left), le-ltb _ _ (at-if8 .if8 .left), lt-ltb _ _ (c .if9 .taken))
-
-returns-10 : tie.Need-returns-10
-unfolding earlyRefusal wrongSize given _or_
-returns-10 c =
-    let at-if8 = c .before in
-    let at-if7 = at-if8 .before in
-    let at-if6 = at-if7 .before in
-    let at-if5 = at-if6 .before in
-    let at-if4 = at-if5 .before in
-    let at-if3 = at-if4 .before in
-    let at-if2 = at-if3 .before in
-    let at-if1 = at-if2 .before in
-    let at-check = at-if1 .before in
-    rw (← (at-check .check .ensures), at-if1 .if1 .left, eq-eqb _ _ (at-if2 .if2 .left), eq-eqb _ _ (at-if3 .if3 .left), eq-eqb _ _ (at-if4 .if4 .left), eq-eqb _ _ (at-if5 .if5 .left), eq-eqb _ _ (at-if6 .if6 .left), eq-eqb _ _ (at-if7 .if7 .left), le-ltb _ _ (at-if8 .if8 .left), le-ltb _ _ (c .if9 .left))
+unfolding earlyRefusal given _or_
+returns-3 c = rw (pass (c .before .before), sym (c .before .lacking .ensures) ∙ c .if2 .left)
 
 pub refusal-spec : {M : Type 1} → statement M
-refusal-spec =
-    tie.close
-    (tie.spec
-    check-requires
-    returns
-    returns-2
-    returns-3
-    returns-4
-    returns-5
-    returns-6
-    returns-7
-    mul-if8
-    mul-if8-2
-    add-if8
-    add-if8-2
-    returns-8
-    add-if9
-    mul-if9
-    returns-9
-    returns-10)
+refusal-spec = tie.close (tie.spec refusal-requires returns lacking-requires returns-2 returns-3)
