@@ -10,6 +10,19 @@ use Rattle.graph.specs.Graph.{Graph, from, to}
 use Rattle.graph.specs.Checker.{at}
 use Rattle.ranks.specs.Ranks.{lead, rise}
 
+-- an edge raises the rank exactly if it changes the label
+module _ (g : Graph) (lab : List ℕ) (e : ℕ) where
+  pub rise-change : (rise g lab e ≡ 0 → ⊥) → at lab (from g e) ≡ at lab (to g e) → ⊥
+  unfolding rise
+  rise-change o s = o (rw (eq-eqb _ _ s))
+
+  pub rise-same : rise g lab e ≡ 0 → at lab (from g e) ≡ at lab (to g e)
+  unfolding rise
+  rise-same z = elim (ℕ-discrete (at lab (from g e)) (at lab (to g e))) as (λ _. at lab (from g e) ≡ at lab (to g e)) [
+    | yes s ↦ s
+    | no o ↦ let q : _≡_ {A = ℕ} 1 0 = rw (ne-eqb _ _ o) at z in absurd (omega arith)
+  ]
+
 module _ (g : Graph) (lab : List ℕ) (inEdge : ℕ → ℕ) (e : ℕ) where
   -- an edge that changes the label is awaited by the label it leads to
   pub lead-change : (at lab (from g e) ≡ at lab (to g e) → ⊥) → (lead g lab inEdge e ≡ at lab (to g e)) × (rise g lab e ≡ 1)

@@ -20,9 +20,8 @@ fn lead(
     requires { ⌜ EdgeAsk (graph n (now sources) (now targets)) (now label) b e (now w) ⌝ }
     ensures { λ r. ⌜ r ≡ lead (graph n (now (sources .entry)) (now (targets .entry))) (now (label .entry)) (region (inEdges n b) (now (w .entry))) e ⌝ }
 {
-    let u = sources[e] as usize;
     let v = targets[e] as usize;
-    if label[u] != label[v] {
+    if rise(sources, targets, n, label, w, b, e) != 0 {
         return label[v] as usize;
     }
     let x = w[b + 3 * n + v] as usize;
