@@ -1,5 +1,5 @@
 -- The sweep by any kind, from the two sweeps. For kind 1 the front of the words is lent.
-use Prim.Native.Nat.{ℕ, _/_, _<_}
+use Prim.Native.Nat.{ℕ, _≤_}
 use native.Mathlib.Omega.{arith}
 use mathlib.Core.Path.{_≡_, refl, sym, _∙_}
 use mathlib.Core.List.{List, _++_}
@@ -9,18 +9,39 @@ use borrow.Author.Tests.{ne-eqb}
 use Rattle.graph.specs.Graph.{Graph}
 use Rattle.graph.specs.Limits.{wordsOf}
 use Rattle.graph.specs.Pivot.{draws}
-use Rattle.graph.specs.Sets.{bit}
 use Rattle.graph.proofs.Lent.{front-long, front-in, front-out}
+use Rattle.sets.proofs.Store.{bit-same}
 use Rattle.parts.specs.Sweep.{Swept}
-use Rattle.parts.specs.Drawn.{DrawnAsk, SweptDrawn}
-use Rattle.parts.specs.Divide.{KindAsk, KindSwept}
+use Rattle.parts.specs.Drawn.{Empty, DrawnAsk, SweptDrawn}
+use Rattle.parts.specs.Divide.{Blank, KindAsk, KindSwept}
 use Rattle.parts.proofs.Sweeping.{sweeps-kind}
 
--- two words lists with the same words below wordsOf n have the same vertices
-bit-same : (n : ℕ) (ws ws' : List ℕ) → ((j : ℕ) → j < wordsOf n → getD ws' j 0 ≡ getD ws j 0) → (v : ℕ) → v < n → bit ws' v ≡ bit ws v
-unfolding bit
-bit-same n ws ws' s v l = rw (s (v / 64) (omega arith)) refl
+-- THE FRONT OF THE WORDS IS LENT
+module _ {n : ℕ} {ws : List ℕ} (a : Blank n ws) where
+  pub lent-empty : Empty n (take (wordsOf n) ws)
+  lent-empty = record {
+    words = length-take-le (wordsOf n) ws (a .words);
+    none = λ v l. bit-same n ws (take (wordsOf n) ws) (λ j m. getD-take (wordsOf n) ws j 0 m) v l ∙ a .none v l;
+  }
 
+  -- and comes back as l
+  module _ {l : List ℕ} (e : Empty n l) where
+    same-long : length l ≡ length (take (wordsOf n) ws)
+    same-long = e .words ∙ sym (lent-empty .words)
+
+    pub back-long : length (l ++ drop (wordsOf n) ws) ≡ length ws
+    back-long = front-long ws l (wordsOf n) (a .words) same-long
+
+    pub back-beyond : (j : ℕ) → wordsOf n ≤ j → getD (l ++ drop (wordsOf n) ws) j 0 ≡ getD ws j 0
+    back-beyond = front-out ws l (wordsOf n) (a .words) same-long
+
+    pub back-blank : Blank n (l ++ drop (wordsOf n) ws)
+    back-blank = record {
+      words = omega (arith, back-long, a .words);
+      none = λ v m. bit-same n l (l ++ drop (wordsOf n) ws) (front-in ws l (wordsOf n) (a .words) same-long) v m ∙ e .none v m;
+    }
+
+-- BY KIND
 module _ {g : Graph} {b h q top : ℕ} {w ws : List ℕ} (a : KindAsk g b h q top w ws) where
   -- the kinds 0 and 2
   pub kind-chain : {kind state : ℕ} → (kind ≡ 1 → ⊥) → {w' : List ℕ} {top' : ℕ} → Swept g b q 0 0 top w w' top' → KindSwept g b q kind state top w ws w' ws state 0 top'
@@ -39,35 +60,18 @@ module _ {g : Graph} {b h q top : ℕ} {w ws : List ℕ} (a : KindAsk g b h q to
 
   -- kind 1
   pub lent-ask : DrawnAsk g b h q top w (take (wordsOf (g .n)) ws)
-  lent-ask = record {
-    stage = a .stage;
-    runs = a .runs;
-    known = a .known;
-    empty = record {
-      words = length-take-le (wordsOf (g .n)) ws (a .blank .words);
-      none = λ v l. bit-same (g .n) ws (take (wordsOf (g .n)) ws) (λ j m. getD-take (wordsOf (g .n)) ws j 0 m) v l ∙ a .blank .none v l;
-    };
-  }
+  lent-ask = record { stage = a .stage; runs = a .runs; known = a .known; empty = lent-empty (a .blank) }
 
   pub kind-drawn : {kind state : ℕ} → kind ≡ 1 → {w' l : List ℕ} {state' k top' : ℕ} → SweptDrawn g b q state top w w' l state' k top'
       → KindSwept g b q kind state top w ws w' (l ++ drop (wordsOf (g .n)) ws) state' k top'
-  kind-drawn e {l = l} {k = k} z = rw e (record {
+  kind-drawn e {k = k} z = rw e (record {
     pivots = k;
     sweeps = z .sweeps;
     colours = z .colours;
     drawn = refl;
     advanced = z .advanced;
     gone = z .gone;
-    blank = record {
-      words = omega (arith, long, a .blank .words);
-      none = λ v m. bit-same (g .n) l (l ++ drop (wordsOf (g .n)) ws) (front-in ws l (wordsOf (g .n)) (a .blank .words) lent) v m ∙ z .empty .none v m;
-    };
-    beyond = front-out ws l (wordsOf (g .n)) (a .blank .words) lent;
-    long = long;
+    blank = back-blank (a .blank) (z .empty);
+    beyond = back-beyond (a .blank) (z .empty);
+    long = back-long (a .blank) (z .empty);
   })
-    where
-      lent : length l ≡ length (take (wordsOf (g .n)) ws)
-      lent = z .empty .words ∙ sym (length-take-le (wordsOf (g .n)) ws (a .blank .words))
-
-      long : length (l ++ drop (wordsOf (g .n)) ws) ≡ length ws
-      long = front-long ws l (wordsOf (g .n)) (a .blank .words) lent

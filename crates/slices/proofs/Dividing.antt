@@ -1,11 +1,10 @@
 -- The whole collection by method 1.
-use Prim.Native.Nat.{ℕ, _+_, _-_, _*_, _/_, _≤_, _<_}
+use Prim.Native.Nat.{ℕ, _+_, _*_, _≤_, _<_}
 use native.Mathlib.Omega.{arith}
 use mathlib.Core.Path.{_≡_, refl, sym, _∙_}
 use mathlib.Core.Logic.{_⊎_, inl, inr, ⊎-elim}
 use mathlib.Core.List.{List, _++_}
-use lib.ListN.{length, getD, take, drop}
-use lib.Seq.{getD-take, length-take-le}
+use lib.ListN.{take, drop}
 use lib.Dec.{eqb}
 use borrow.Author.Tests.{ne-eqb}
 use Rattle.graph.specs.Graph.{Graph, edges}
@@ -13,9 +12,7 @@ use Rattle.graph.specs.Parts.{Alone}
 use Rattle.graph.specs.Limits.{wordsOf}
 use Rattle.graph.specs.Numbers.{many}
 use Rattle.graph.specs.Pivot.{draws}
-use Rattle.graph.specs.Sets.{bit}
 use Rattle.graph.proofs.Counts.{many-le}
-use Rattle.graph.proofs.Lent.{front-long, front-in, front-out}
 use Rattle.paint.specs.Colours.{col}
 use Rattle.parts.specs.State.{ord, Stage}
 use Rattle.parts.specs.Chain.{own}
@@ -23,6 +20,7 @@ use Rattle.parts.specs.Sweep.{Runs}
 use Rattle.parts.specs.Share.{ShareAsk, Sharing}
 use Rattle.parts.specs.Divide.{Recoloured}
 use Rattle.parts.proofs.Same.{stage-same}
+use Rattle.parts.proofs.ByKind.{lent-empty, back-long, back-beyond, back-blank}
 use Rattle.parts.proofs.Rings.{rings-none}
 use Rattle.parts.proofs.Handing.{hand-ask, hand-colour, handed}
 use Rattle.slices.specs.Slice.{Untouched}
@@ -30,11 +28,6 @@ use Rattle.slices.specs.Sweep.{PrepareAsk, Prepared, Uncut, Swept}
 use Rattle.slices.specs.Drawn.{DrawnAsk, SweptDrawn}
 use Rattle.slices.specs.Divide.{KindAsk, KindSwept, WholeAsk, Division}
 use Rattle.slices.proofs.Sweeping.{slicings-uncut, slicings-inside, slicings-least, slicings-few, slicings-ours, slicings-kind}
-
--- two lists of words with the same front have the same vertices
-bit-same : (n : ℕ) (ws ws' : List ℕ) → ((j : ℕ) → j < wordsOf n → getD ws' j 0 ≡ getD ws j 0) → (v : ℕ) → v < n → bit ws' v ≡ bit ws v
-unfolding bit
-bit-same n ws ws' s v l = rw (s (v / 64) (omega arith)) refl
 
 -- BY KIND
 module _ (g : Graph) (b h q kind state top : ℕ) (w ws : List ℕ) (a : KindAsk g b h q top w ws) where
@@ -52,14 +45,7 @@ module _ (g : Graph) (b h q kind state top : ℕ) (w ws : List ℕ) (a : KindAsk
   }
 
   pub kind-lent : DrawnAsk g b h q top w (take (wordsOf (g .n)) ws)
-  kind-lent = record {
-    uncut = a .uncut;
-    runs = a .runs;
-    empty = record {
-      words = length-take-le (wordsOf (g .n)) ws (a .blank .words);
-      none = λ v l. bit-same (g .n) ws (take (wordsOf (g .n)) ws) (λ j m. getD-take (wordsOf (g .n)) ws j 0 m) v l ∙ a .blank .none v l;
-    };
-  }
+  kind-lent = record { uncut = a .uncut; runs = a .runs; empty = lent-empty (a .blank) }
 
   pub kind-drawn : kind ≡ 1 → (w' l : List ℕ) (state' k top' : ℕ) → SweptDrawn g b q state top w w' l state' k top'
       → KindSwept g b q kind state top w ws w' (l ++ drop (wordsOf (g .n)) ws) state' k top'
@@ -69,19 +55,10 @@ module _ (g : Graph) (b h q kind state top : ℕ) (w ws : List ℕ) (a : KindAsk
     drawn = refl;
     advanced = z .advanced;
     gone = z .gone;
-    blank = record {
-      words = omega (arith, long, a .blank .words);
-      none = λ v m. bit-same (g .n) l (l ++ drop (wordsOf (g .n)) ws) (front-in ws l (wordsOf (g .n)) (a .blank .words) lent) v m ∙ z .empty .none v m;
-    };
-    beyond = front-out ws l (wordsOf (g .n)) (a .blank .words) lent;
-    long = long;
+    blank = back-blank (a .blank) (z .empty);
+    beyond = back-beyond (a .blank) (z .empty);
+    long = back-long (a .blank) (z .empty);
   })
-    where
-      lent : length l ≡ length (take (wordsOf (g .n)) ws)
-      lent = z .empty .words ∙ sym (length-take-le (wordsOf (g .n)) ws (a .blank .words))
-
-      long : length (l ++ drop (wordsOf (g .n)) ws) ≡ length ws
-      long = front-long ws l (wordsOf (g .n)) (a .blank .words) lent
 
 -- THE WHOLE
 module _ (g : Graph) (b kind state top : ℕ) (w ws : List ℕ) (a : WholeAsk g b top w ws) where
