@@ -8,9 +8,9 @@ use lib.ListN.{length}
 use lib.Dec.{eqb, ltb}
 use borrow.Author.Tests.{ltb-false, eqb-true, not-false}
 use Rattle.graph.specs.Graph.{graph, Valid}
-use Rattle.graph.specs.Limits.{mostVertices, mostEdges, numbersNeeded, wordsNeeded, wrongLength, memoryShort, listShort, unknownChoice}
-use Rattle.graph.specs.Refusal.{given, _or_, tableRefusal}
-use Rattle.graph.proofs.Refusals.{or-none, given-none, or-left-none, table-passed, passed-valid}
+use Rattle.graph.specs.Limits.{mostVertices, mostEdges, Enough, wrongLength, memoryShort, listShort, unknownChoice}
+use Rattle.graph.specs.Refusal.{given, _or_, tableRefusal, lacking}
+use Rattle.graph.proofs.Refusals.{or-none, given-none, or-left-none, not-lacking, table-passed, passed-valid}
 use Rattle.decompose.specs.Promise.{refusalOf}
 
 pub record Accepted (n : ℕ) (sources targets : List ℕ) (method order kind lab parts num wor : ℕ) : Type 0 where
@@ -18,8 +18,7 @@ pub record Accepted (n : ℕ) (sources targets : List ℕ) (method order kind la
   pub small : n ≤ mostVertices
   pub few : length sources ≤ mostEdges
   pub label : lab ≡ n
-  pub numbers : numbersNeeded n (length sources) ≤ num
-  pub words : wordsNeeded n ≤ wor
+  pub memory : Enough n (length sources) num wor
   pub waiting : n ≤ parts
   pub known-method : method ≤ 1
   pub known-kind : kind ≤ 2
@@ -29,12 +28,11 @@ pub accepted : {n : ℕ} {sources targets : List ℕ} {method order kind lab par
     → refusalOf n sources targets method order kind lab parts num wor ≡ 0 → Accepted n sources targets method order kind lab parts num wor
 unfolding refusalOf
 accepted {n} {sources} {targets} {method} {order} {kind} {lab} {parts} {num} {wor} e =
-    let (a, e₁) = or-none (tableRefusal n sources targets) (given wrongLength (not (eqb lab n)) or given memoryShort (ltb num (numbersNeeded n (length sources)) || ltb wor (wordsNeeded n)) or given listShort (ltb parts n) or given unknownChoice (ltb 1 method || ltb 2 kind || ltb 1 order)) e in
-    let (b, e₂) = or-none (given wrongLength (not (eqb lab n))) (given memoryShort (ltb num (numbersNeeded n (length sources)) || ltb wor (wordsNeeded n)) or given listShort (ltb parts n) or given unknownChoice (ltb 1 method || ltb 2 kind || ltb 1 order)) e₁ in
-    let (c, e₃) = or-none (given memoryShort (ltb num (numbersNeeded n (length sources)) || ltb wor (wordsNeeded n))) (given listShort (ltb parts n) or given unknownChoice (ltb 1 method || ltb 2 kind || ltb 1 order)) e₂ in
-    let (d, f) = or-none (given listShort (ltb parts n)) (given unknownChoice (ltb 1 method || ltb 2 kind || ltb 1 order)) e₃ in
-    let (c₁, c₂) = or-left-none (ltb num (numbersNeeded n (length sources))) (ltb wor (wordsNeeded n)) (given-none memoryShort (ltb num (numbersNeeded n (length sources)) || ltb wor (wordsNeeded n)) (λ z. omega arith) c) in
-    let (f', f₃) = or-left-none (ltb 1 method || ltb 2 kind) (ltb 1 order) (given-none unknownChoice (ltb 1 method || ltb 2 kind || ltb 1 order) (λ z. omega arith) f) in
+    let (a, e₁) = or-none (tableRefusal n sources targets) _ e in
+    let (b, e₂) = or-none (given wrongLength (not (eqb lab n))) _ e₁ in
+    let (c, e₃) = or-none (given memoryShort (lacking n (length sources) num wor)) _ e₂ in
+    let (d, f) = or-none (given listShort (ltb parts n)) _ e₃ in
+    let (f', f₃) = or-left-none (ltb 1 method || ltb 2 kind) (ltb 1 order) (given-none unknownChoice _ (λ z. omega arith) f) in
     let (f₁, f₂) = or-left-none (ltb 1 method) (ltb 2 kind) f' in
     let p = table-passed n sources targets a in
     record {
@@ -42,8 +40,7 @@ accepted {n} {sources} {targets} {method} {order} {kind} {lab} {parts} {num} {wo
       small = p .small;
       few = p .few;
       label = eqb-true lab n (not-false (eqb lab n) (given-none wrongLength (not (eqb lab n)) (λ z. omega arith) b));
-      numbers = ltb-false num (numbersNeeded n (length sources)) c₁;
-      words = ltb-false wor (wordsNeeded n) c₂;
+      memory = not-lacking n (length sources) num wor (given-none memoryShort _ (λ z. omega arith) c);
       waiting = ltb-false parts n (given-none listShort (ltb parts n) (λ z. omega arith) d);
       known-method = ltb-false 1 method f₁;
       known-kind = ltb-false 2 kind f₂;

@@ -5,7 +5,6 @@ pub mod Driving
 pub mod Cutting
 pub mod Accepting
 pub mod Starting
-pub mod Ending
 pub mod Promising
 pub mod Unique
 pub mod Own

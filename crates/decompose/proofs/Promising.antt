@@ -10,10 +10,12 @@ use lib.ListN.{length, getD, replicate}
 use lib.Dec.{T, eqb, ltb, leb, eqb→eq, leb→le}
 use Rattle.graph.specs.Graph.{graph, Valid, IsLabel}
 use Rattle.graph.specs.Numbers.{many}
+use Rattle.graph.specs.Memory.{ClearAsk}
 use Rattle.graph.specs.Pivot.{draws}
 use Rattle.graph.specs.Search.{labels}
 use Rattle.graph.specs.Summary.{sharing, summary}
 use Rattle.graph.proofs.Certificate.{right-unique}
+use Rattle.graph.proofs.Memory.{zeroed-after}
 use Rattle.graph.proofs.Counts.{many-le, many-mono, many-place}
 use Rattle.paint.specs.Colours.{col}
 use Rattle.parts.specs.State.{ring, rings}
@@ -48,7 +50,7 @@ module _ {n : ℕ} {src tgt : List ℕ} {method order : ℕ} {c : Chooser} {list
         small = a .small;
         few = a .few;
         records = l;
-        memory = omega (arith, a .numbers, st .long);
+        memory = omega (arith, a .memory .numbers, st .long);
         cleared = omega arith;
         oldest = p;
         pending = omega arith;
@@ -92,17 +94,23 @@ ran-lengths (ran p r w) = record { numbers = w .numbers-long; words = w .words-l
 pub record Accepting (n m : ℕ) (lab num wor num₁ wor₁ : List ℕ) (s : Machine) : Type 0 where
   pub room : s .refusal ≡ 0 → Room n m lab num₁ wor₁
 
+clear-same : {n m : ℕ} {num wor num₁ wor₁ : List ℕ} → ClearAsk n m num wor → length num₁ ≡ length num → length wor₁ ≡ length wor → ClearAsk n m num₁ wor₁
+clear-same a p q = record { limits = a .limits; enough = record { numbers = omega (arith, a .enough .numbers); words = omega (arith, a .enough .words) } }
+
+accepted-clear : {n : ℕ} {src tgt : List ℕ} {method order kind lab parts len len' : ℕ} {num wor : List ℕ}
+    → Accepted n src tgt method order kind lab parts len len' → length num ≡ len → length wor ≡ len' → ClearAsk n (length src) num wor
+accepted-clear a p q = record { limits = record { small = a .small; few = a .few }; enough = record { numbers = omega (arith, a .memory .numbers); words = omega (arith, a .memory .words) } }
+
 accepting : {n : ℕ} {src tgt : List ℕ} {method order : ℕ} {c : Chooser} {list lab : List ℕ} {parts : ℕ} {num wor num₁ wor₁ : List ℕ} {s : Machine}
     → Begun n src tgt method order c list parts (length lab) num wor num₁ wor₁ s → Accepting n (length src) lab num wor num₁ wor₁ s
 accepting (refused h) = record { room = λ z. absurd (h z) }
-accepting (nothing q e) = let a = accepted q in record { room = λ z. record { small = a .small; few = a .few; label = a .label; numbers = a .numbers; words = a .words } }
+accepting (nothing q e) = let a = accepted q in record { room = λ z. record { label = a .label; memory = accepted-clear a refl refl } }
 accepting (begun q p st) =
-    let a = accepted q in
-    record { room = λ z. record { small = a .small; few = a .few; label = a .label; numbers = omega (arith, a .numbers, st .long); words = omega (arith, a .words, st .words-long) } }
+    record { room = λ z. record { label = accepted q .label; memory = accepted-clear (accepted q) (st .long) (st .words-long) } }
 
 ended-ask : {n m : ℕ} {lab num wor num₁ wor₁ num₂ wor₂ : List ℕ} {s e : Machine} → Accepting n m lab num wor num₁ wor₁ s → Lengths num₁ wor₁ num₂ wor₂ s e → FinishAsk n m lab num₂ wor₂ e
 ended-ask a x =
-    record { room = λ z. let r = a .room (sym (x .refusal) ∙ z) in record { small = r .small; few = r .few; label = r .label; numbers = omega (arith, r .numbers, x .numbers); words = omega (arith, r .words, x .words) } }
+    record { room = λ z. let r = a .room (sym (x .refusal) ∙ z) in record { label = r .label; memory = clear-same (r .memory) (x .numbers) (x .words) } }
 
 pub driven-finish : {n : ℕ} {src tgt : List ℕ} {method order : ℕ} {c : Chooser} {list lab : List ℕ} {num wor num₁ wor₁ num₂ wor₂ : List ℕ} {s e : Machine} {c₁ c₂ : Chooser} {ys ys₁ : List Part}
     → Begun n src tgt method order c list (length ys) (length lab) num wor num₁ wor₁ s → Driven n src tgt c₁ ys num₁ wor₁ s c₂ ys₁ num₂ wor₂ e → FinishAsk n (length src) lab num₂ wor₂ e
@@ -163,7 +171,7 @@ refused-met : {n : ℕ} {src tgt : List ℕ} {method order : ℕ} {c : Chooser} 
     → k ≡ refusalOf n src tgt method order (c .kind) (length lab) (length ys) (length num) (length wor) → (k ≡ 0 → ⊥)
     → Ended n (length src) lab num wor (idleWith k) lab₃ num₃ wor₃ a → Promise (call n src tgt method order c list ys lab num wor) (after c ys lab₃ num₃ wor₃) a
 refused-met k e h (refusing x) = record { refusal = e; gives = record { refused = h; chooser = refl; waiting = refl; label = refl; numbers = refl; words = refl } }
-refused-met k e h (doing x cp zn zw) = absurd (h x)
+refused-met k e h (doing x cp z) = absurd (h x)
 
 -- no vertex
 nothing-met : {n : ℕ} {src tgt : List ℕ} {method order : ℕ} {c : Chooser} {list lab : List ℕ} {num wor : List ℕ} {ys : List Part} {lab₃ num₃ wor₃ : List ℕ} {a : Answer}
@@ -171,7 +179,7 @@ nothing-met : {n : ℕ} {src tgt : List ℕ} {method order : ℕ} {c : Chooser} 
     → Ended n (length src) lab num wor (idleWith 0) lab₃ num₃ wor₃ a → Promise (call n src tgt method order c list ys lab num wor) (after c ys lab₃ num₃ wor₃) a
 unfolding draws summary
 nothing-met q e (refusing x) = absurd (x refl)
-nothing-met {n} {lab₃ = lab₃} q e (doing x cp zn zw) =
+nothing-met {n} {lab₃ = lab₃} q e (doing x cp z) =
     let k = accepted q in
     record {
       refusal = sym q;
@@ -183,8 +191,8 @@ nothing-met {n} {lab₃ = lab₃} q e (doing x cp zn zw) =
         state = refl;
         kind = refl;
         waiting = record { long = refl; front = λ j h. absurd (omega arith); rest = λ j h. refl };
-        numbers = zn;
-        words = zw;
+        numbers = z .numbers-zero;
+        words = z .words-zero;
       };
     }
 
@@ -194,21 +202,22 @@ ran-met : {n : ℕ} {src tgt : List ℕ} {method order : ℕ} {c : Chooser} {lis
     → Running n src tgt c₂ ys₂ num₂ wor₂ e → Went n (length src) c ys num₁ wor₁ (aimed n (firstOne n method order)) c₂ ys₂ num₂ wor₂ e → e .go ≡ 0
     → Ended n (length src) lab num₂ wor₂ e lab₃ num₃ wor₃ a → Promise (call n src tgt method order c list ys lab num wor) (after c₂ ys₂ lab₃ num₃ wor₃) a
 ran-met q st r w d (refusing x) = absurd (x (w .refusal))
-ran-met {n} {src} {c = c} {e = e} {lab₃ = lab₃} q st r w d (doing x cp zn zw) =
+ran-met {n} {src} {c = c} {num₂ = num₂} {e = e} {lab₃ = lab₃} q st r w d (doing x cp z) =
     let k = accepted q in
     let all-draws : e .made - 0 ≡ e .made = omega arith in
+    let copied : (v : ℕ) → v < n → getD lab₃ v 0 ≡ col (base n src) num₂ v = λ v l. cp .each v (omega (arith, k .label)) in
     record {
       refusal = sym q;
       gives = record {
-        label = right-unique (k .valid) lab₃ (cp .long ∙ k .label) (λ v l. rw (cp .labels v l) (ended-label r d (k .valid) v l));
+        label = right-unique (k .valid) lab₃ (cp .long ∙ k .label) (λ v l. rw (copied v l) (ended-label r d (k .valid) v l));
         never = λ z. r .still (λ y. z (sym (w .kind) ∙ y));
-        least = λ z. omega (arith, r .drawn (w .kind ∙ z), ended-rings r d (k .valid) lab₃ (cp .long ∙ k .label) (cp .labels));
+        least = λ z. omega (arith, r .drawn (w .kind ∙ z), ended-rings r d (k .valid) lab₃ (cp .long ∙ k .label) copied);
         most = ended-most r d (k .valid);
         state = w .state ∙ ap (λ (i : ℕ). draws i (c .state)) all-draws;
         kind = w .kind;
         waiting = record { long = w .long; front = ended-none r d (k .valid); rest = w .list };
-        numbers = record { long = zn .long ∙ w .numbers-long ∙ st .long; front = zn .front; rest = λ j h. zn .rest j h ∙ w .numbers j h ∙ st .beyond j h };
-        words = record { long = zw .long ∙ w .words-long ∙ st .words-long; front = zw .front; rest = λ j h. zw .rest j h ∙ w .words j h ∙ st .words j h };
+        numbers = zeroed-after (w .numbers-long ∙ st .long) (λ j h. w .numbers j h ∙ st .beyond j h) (z .numbers-zero);
+        words = zeroed-after (w .words-long ∙ st .words-long) (λ j h. w .words j h ∙ st .words j h) (z .words-zero);
       };
     }
 

@@ -1,5 +1,5 @@
 -- The beginning: one part, the whole, whose chain is the order.
-use Prim.Native.Nat.{ℕ, zero, suc, _+_, _-_, _*_, _/_, _%_, _≤_, _<_}
+use Prim.Native.Nat.{ℕ, zero, suc, _+_, _-_, _*_, _/_, _≤_, _<_}
 use native.Mathlib.Omega.{arith}
 use native.Mathlib.Decide.{ℕ-discrete}
 use native.Mathlib.Nat.{not-suc-le-zero}
@@ -8,17 +8,16 @@ use mathlib.Core.Bool.{Bool, false}
 use mathlib.Core.List.{List}
 use lib.ListN.{length, getD, set, length-set}
 use lib.Seq.{getD-set-same, getD-set-other}
-use lib.Dec.{lit<}
 use Rattle.graph.specs.Graph.{graph}
 use Rattle.graph.specs.Limits.{wordsNeeded, numbersNeeded}
 use Rattle.graph.specs.Memory.{Zeroed}
 use Rattle.graph.specs.Numbers.{least, many}
-use Rattle.graph.specs.Sets.{bit}
 use Rattle.graph.proofs.Chains.{same-low}
 use Rattle.graph.proofs.Counts.{many-mono}
-use Rattle.sets.proofs.Digits.{small-at}
+use Rattle.sets.proofs.Store.{zero-bit}
 use Rattle.index.specs.Build.{Both}
 use Rattle.index.proofs.Moved.{indexed-kept}
+use Rattle.regions.specs.Regions.{Filled}
 use Rattle.paint.specs.Colours.{col}
 use Rattle.pivot.specs.Order.{Arranged, Ordered, order}
 use Rattle.parts.specs.State.{ord, ring, rings, Tables, Stage}
@@ -44,6 +43,9 @@ put-step {x} {i} {f} {w₀} {w} y e l z =
       long = length-set w (x + i) y ∙ z .long;
     }
 
+pub filled-put : {x len y : ℕ} {w w' : List ℕ} → Filled x len y w w' → Put x len (λ j. y) w w'
+filled-put f = record { here = f .each; low = f .framed .low; high = f .framed .high; long = f .framed .long }
+
 least-same : (n : ℕ) (f h : ℕ → Bool) → ((i : ℕ) → f i ≡ h i) → least n f ≡ least n h
 unfolding least
 least-same zero f h e = refl
@@ -65,11 +67,10 @@ none-pass (suc n) = omega (arith, none-pass n)
 
 -- words of zeros are a set with no vertex
 pub blank-zeroed : {n : ℕ} {ws ws' : List ℕ} → wordsNeeded n ≤ length ws → Zeroed (wordsNeeded n) ws ws' → Blank n ws'
-unfolding bit
 blank-zeroed {n} {ws} {ws'} l z =
     record {
       words = omega (arith, z .long);
-      none = λ v h. rw (z .front (v / 64) (omega arith)) (small-at 0 0 (v % 64) (lit< tt) (omega arith));
+      none = λ v h. zero-bit ws' v (z .front (v / 64) (omega arith));
     }
 
 module _ (n : ℕ) (src tgt L : List ℕ) {w w₁ w₂ w₃ w₄ w₅ w₆ ws ws' : List ℕ} (ask : StartAsk n src tgt w ws)
@@ -139,7 +140,7 @@ module _ (n : ℕ) (src tgt L : List ℕ) {w w₁ w₂ w₃ w₄ w₅ w₆ ws ws
           below = λ v h. omega (arith, colour v h);
         };
         room = omega arith;
-        long = omega (arith, ask .memory, long);
+        long = omega (arith, ask .memory .numbers, long);
       }
 
   pub started : (kind : ℕ) (list : List ℕ) → L ≡ listOf kind list → Started n src tgt kind list w ws w₆ ws'
@@ -160,7 +161,7 @@ module _ (n : ℕ) (src tgt L : List ℕ) {w w₁ w₂ w₃ w₄ w₅ w₆ ws ws
         };
         whole = record { zero = zeroth; colours = colour; first = refl };
         order = rw (sym e) arranged;
-        blank = blank-zeroed (ask .words) z;
+        blank = blank-zeroed (ask .memory .words) z;
         long = long;
         beyond = beyond;
         words-long = z .long;

@@ -6,7 +6,7 @@ use mathlib.Core.List.{List, []}
 use lib.ListN.{length, getD}
 use lib.Dec.{eqb}
 use Rattle.graph.specs.Graph.{graph, Valid}
-use Rattle.graph.specs.Limits.{mostVertices, mostEdges, numbersNeeded, wordsNeeded}
+use Rattle.graph.specs.Limits.{mostVertices, mostEdges, numbersNeeded, wordsNeeded, Enough}
 use Rattle.parts.specs.Chain.{head}
 use Rattle.parts.specs.State.{ord}
 use Rattle.parts.specs.Divide.{Blank}
@@ -39,8 +39,7 @@ pub record StartAsk (n : ℕ) (src tgt : List ℕ) (num wor : List ℕ) : Type 0
   pub small : n ≤ mostVertices
   pub few : length src ≤ mostEdges
   pub some : 0 < n
-  pub memory : numbersNeeded n (length src) ≤ length num
-  pub words : wordsNeeded n ≤ length wor
+  pub memory : Enough n (length src) (length num) (length wor)
 
 pub record Started (n : ℕ) (src tgt : List ℕ) (kind : ℕ) (list num wor num' wor' : List ℕ) : Type 0 where
   pub waits : Waits (graph n src tgt) (base n src) (n + 1) 1 (head n (base n src) num') num'

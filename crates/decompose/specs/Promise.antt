@@ -9,7 +9,7 @@ use Rattle.graph.specs.Graph.{graph}
 use Rattle.graph.specs.Limits.{numbersNeeded, wordsNeeded, wrongLength, memoryShort, listShort, unknownChoice}
 use Rattle.graph.specs.Memory.{Zeroed}
 use Rattle.graph.specs.Pivot.{draws}
-use Rattle.graph.specs.Refusal.{given, _or_, tableRefusal}
+use Rattle.graph.specs.Refusal.{given, _or_, tableRefusal, lacking}
 use Rattle.graph.specs.Search.{labels}
 use Rattle.graph.specs.Summary.{summary}
 use Rattle.waiting.specs.declared.Part.{Part}
@@ -37,7 +37,7 @@ unfoldable pub refusalOf : (n : ℕ) (sources targets : List ℕ) (method order 
 refusalOf n sources targets method order kind label waiting numbers words =
     tableRefusal n sources targets
     or given wrongLength (not (eqb label n))
-    or given memoryShort (ltb numbers (numbersNeeded n (length sources)) || ltb words (wordsNeeded n))
+    or given memoryShort (lacking n (length sources) numbers words)
     or given listShort (ltb waiting n)
     or given unknownChoice (ltb 1 method || ltb 2 kind || ltb 1 order)
 

@@ -1,7 +1,6 @@
 // The beginning of a decomposition: the tests, the indexes, the order, and the whole collection as the first part.
 ghost use mathlib.Core.Path.{_≡_};
 ghost use Prim.Native.Nat.{_+_, _≤_};
-ghost use lib.ListN.{length};
 ghost use Rattle.graph.specs.Limits.{mostVertices};
 ghost use Rattle.pivot.specs.Order.{Ordered};
 ghost use Rattle.pivot.specs.Placing.{Room};
@@ -40,10 +39,7 @@ fn refusal(
     if label != n {
         return limits::WRONG_LENGTH;
     }
-    if numbers < 12 * n + 2 * sources.len() + 16 {
-        return limits::MEMORY_SHORT;
-    }
-    if words < 6 * ((n + 63) / 64) {
+    if limits::lacking(n, sources.len(), numbers, words) {
         return limits::MEMORY_SHORT;
     }
     if waiting < n {
@@ -59,18 +55,6 @@ fn refusal(
         return limits::UNKNOWN_CHOICE;
     }
     0
-}
-
-// len numbers from x on become y.
-fn fill(w: &mut [u32], x: usize, len: usize, y: u32)
-    requires { ⌜ x + len ≤ length (now w) ⌝ }
-    ensures { λ _. ⌜ Put x len (λ j. y) (now (w .entry)) (now (w .exit)) ⌝ }
-{
-    let mut i = 0;
-    while i < len {
-        w[x + i] = y;
-        i += 1;
-    }
 }
 
 // len numbers from x on become 1, 2, ..
@@ -112,11 +96,11 @@ fn start(
     let b = 2 * (n + 1 + sources.len());
     build::both(sources, targets, n, numbers);
     arrange(n, kind, list, numbers, b);
-    fill(numbers, b, n, n as u32);
+    regions::fill(numbers, b, n, n as u32);
     number(numbers, b + 2 * n, n);
-    fill(numbers, b + 3 * n, 3 * n + 2, n as u32);
-    fill(numbers, b + 8 * n + 2, 1, 0);
-    memory::zero_words(words, 6 * ((n + 63) / 64));
+    regions::fill(numbers, b + 3 * n, 3 * n + 2, n as u32);
+    regions::fill(numbers, b + 8 * n + 2, 1, 0);
+    memory::zero_words(words, limits::words_needed(n));
 }
 
 // A machine with nothing to do, that refuses with k.

@@ -1,23 +1,11 @@
 // The end of a decomposition: the colours become the label column, and the working memory is zeroed.
-ghost use Rattle.decompose.specs.Finish.{CopyAsk, Copied, FinishAsk, Ended};
+ghost use Rattle.decompose.specs.Finish.{FinishAsk, Ended};
 use crate::machine::Machine;
 use index::memory;
 
 pub enum Answer {
     Done { draws: usize },
     Refused(u32),
-}
-
-// The colours are copied to the label column.
-fn copy(label: &mut [u32], numbers: &[u32], n: usize, b: usize)
-    requires { ⌜ CopyAsk n b (now label) (now numbers) ⌝ }
-    ensures { λ _. ⌜ Copied n b (now (label .entry)) (now (numbers .entry)) (now (label .exit)) ⌝ }
-{
-    let mut v = 0;
-    while v < n {
-        label[v] = numbers[b + v];
-        v += 1;
-    }
 }
 
 // The answer of the machine.
@@ -36,8 +24,7 @@ pub fn finish(
     if k != 0 {
         return Answer::Refused(k);
     }
-    copy(label, numbers, n, 2 * (n + 1 + edges));
-    memory::zero_numbers(numbers, 12 * n + 2 * edges + 16);
-    memory::zero_words(words, 6 * ((n + 63) / 64));
+    regions::copy(numbers, 2 * (n + 1 + edges), label);
+    memory::clear(n, edges, numbers, words);
     Answer::Done { draws: s.made }
 }

@@ -8,7 +8,7 @@ use lib.ListN.{length, replicate}
 use borrow.Author.Tests.{eq-eqb, le-ltb}
 use Rattle.graph.specs.Graph.{graph}
 use Rattle.graph.specs.Limits.{numbersNeeded, wordsNeeded}
-use Rattle.graph.specs.Refusal.{given, _or_}
+use Rattle.graph.specs.Refusal.{given, _or_, lacking}
 use Rattle.graph.specs.Search.{labels}
 use Rattle.waiting.specs.Records.{none}
 use Rattle.decompose.specs.declared.finish.Answer.{Answer}
@@ -19,7 +19,7 @@ use Rattle.entry.specs.Steps.{LabelAsk}
 
 module _ (n : ℕ) (sources targets label numbers words : List ℕ) (a : LabelAsk n sources targets label) (l₁ : 14352 ≡ length numbers) (l₂ : 48 ≡ length words) where
   plain-refusal : refusalOf n sources targets 0 0 0 (length label) (length (replicate 512 none)) (length numbers) (length words) ≡ 0
-  unfolding refusalOf given _or_
+  unfolding refusalOf given _or_ lacking
   plain-refusal =
       let m : numbersNeeded n (length sources) ≤ length numbers = omega (arith, a .vertices, a .edges) in
       let w : wordsNeeded n ≤ length words = omega (arith, a .vertices) in

@@ -1,8 +1,9 @@
 use mathlib.Core.Path.{refl}
 use native.Mathlib.Omega.{arith}
-use borrow.Author.Needs.{needs}
+use Rattle.index.proofs.Asks.{valid-both}
 use Rattle.decompose.specs.Begin.{listOf}
-use Rattle.decompose.proofs.Starting.{started}
+use Rattle.decompose.proofs.Starting.{filled-put, started}
+use borrow.Author.Needs.{needs}
 use Rattle.decompose.proofs.begin.start.Statement.{statement}
 use Rattle.decompose.proofs.begin.start.Tie as tie
 
@@ -16,15 +17,7 @@ mul-b : tie.Need-mul-b
 mul-b c = search needs
 
 both-requires : tie.Need-both-requires
-both-requires c κs =
-    let start = c .before .before .before .before .before .before in
-    let a = start .pre in
-    record {
-      forward = record { below = a .valid .from-low; small = omega (arith, a .small); few = omega (arith, a .few) };
-      reverse = record { below = λ e h. a .valid .to-low e (omega (arith, a .valid .same)); small = omega (arith, a .small); few = omega (arith, a .few, a .valid .same) };
-      even = a .valid .same;
-      room = omega (arith, a .memory);
-    }
+both-requires c κs = let a = c .before .before .before .before .before .before .pre in valid-both (a .valid) (a .small) (a .few) (omega (arith, a .memory .numbers))
 
 arrange-requires : tie.Need-arrange-requires
 arrange-requires c κs = search needs
@@ -72,22 +65,20 @@ add-fill-4 : tie.Need-add-fill-4
 add-fill-4 c = search needs
 
 fill-requires-3 : tie.Need-fill-requires-3
-fill-requires-3 c κs = search needs
+fill-requires-3 c κs =
+    let at-fill2 = c .before .before .before in
+    let at-number = at-fill2 .before .before .before .before in
+    let at-fill = at-number .before .before .before .before in
+    let at-arrange = at-fill .before .before .before .before in
+    let at-both = at-arrange .before .before .before .before in
+    let start = at-both .before .before .before .before .before .before .before in
+    omega (arith, start .pre .memory .numbers, at-both .both .ensures .long, at-arrange .arrange .ensures .beside .long, at-fill .fill .ensures .framed .long, at-number .number .ensures .long, at-fill2 .fill2 .ensures .framed .long)
 
-add-zero-words : tie.Need-add-zero-words
-add-zero-words c =
-    let start = c .before .before .before .before .before .before .before .before .before .before .before .before .before .before .before .before .before .before .before .before .before .before .before .before .before .before .before .before .before .before in
-    omega (arith, start .pre .small)
-
-mul-zero-words : tie.Need-mul-zero-words
-mul-zero-words c =
-    let start = c .before .before .before .before .before .before .before .before .before .before .before .before .before .before .before .before .before .before .before .before .before .before .before .before .before .before .before .before .before .before in
-    omega (arith, start .pre .small)
+words-needed-requires : tie.Need-words-needed-requires
+words-needed-requires c κs = c .before .before .before .before .before .before .before .before .before .before .before .before .before .before .before .before .before .before .before .before .before .before .before .before .before .before .before .before .before .before .pre .small
 
 zero-words-requires : tie.Need-zero-words-requires
-zero-words-requires c κs =
-    let start = c .before .before .before .before .before .before .before .before .before .before .before .before .before .before .before .before .before .before .before .before .before .before .before .before .before .before .before .before .before .before in
-    start .pre .words
+zero-words-requires c κs = omega (arith, c .before .before .before .before .before .before .before .before .before .before .before .before .before .before .before .before .before .before .before .before .before .before .before .before .before .before .before .before .before .before .before .pre .memory .words, c .words-needed .ensures)
 
 same-length : tie.Need-same-length
 same-length c = search needs
@@ -98,14 +89,15 @@ same-length-2 c = search needs
 returns : tie.Need-returns
 returns c =
     let at-zero-words = c .before .before in
-    let at-fill3 = at-zero-words .before .before .before .before in
+    let at-words-needed = at-zero-words .before in
+    let at-fill3 = at-words-needed .before .before .before .before in
     let at-fill2 = at-fill3 .before .before .before .before in
     let at-number = at-fill2 .before .before .before .before in
     let at-fill = at-number .before .before .before .before in
     let at-arrange = at-fill .before .before .before .before in
     let at-both = at-arrange .before .before .before .before in
     let start = at-both .before .before .before .before .before .before .before in
-    started (start .args .n) (start .args .sources .now) (start .args .targets .now) (listOf (start .args .kind) (start .args .list .now)) (start .pre) (at-both .both .ensures) (at-arrange .arrange .ensures) (at-fill .fill .ensures) (at-number .number .ensures) (at-fill2 .fill2 .ensures) (at-fill3 .fill3 .ensures) (at-zero-words .zero-words .ensures) (start .args .kind) (start .args .list .now) refl
+    started (start .args .n) (start .args .sources .now) (start .args .targets .now) (listOf (start .args .kind) (start .args .list .now)) (start .pre) (at-both .both .ensures) (at-arrange .arrange .ensures) (filled-put (at-fill .fill .ensures)) (at-number .number .ensures) (filled-put (at-fill2 .fill2 .ensures)) (filled-put (at-fill3 .fill3 .ensures)) (rw (at-words-needed .words-needed .ensures) at (at-zero-words .zero-words .ensures)) (start .args .kind) (start .args .list .now) refl
 
 pub start-spec : {M : Type 1} → statement M
 start-spec =
@@ -131,8 +123,7 @@ start-spec =
     add-fill-3
     add-fill-4
     fill-requires-3
-    add-zero-words
-    mul-zero-words
+    words-needed-requires
     zero-words-requires
     same-length
     same-length-2
