@@ -1,0 +1,58 @@
+/* The table that the tests ask about, and how tables are made. */
+#ifndef TABLES_H
+#define TABLES_H
+
+#include "definitions.h"
+
+/* It has room for one edge more than is allowed. In a nested one pivot kind 0 needs a generation of parts for each component: slow in large ones. */
+struct table {
+    const char *name;
+    bool nested;
+    size_t n, m;
+    uint32_t sources[MOST_M + 1], targets[MOST_M + 1];
+};
+
+extern struct table table;
+
+/* Numbers drawn from a fixed seed; every test begins with it. */
+void restart_draws(void);
+uint64_t drawn(void);
+size_t below(size_t k);
+
+/* A table of n vertices without edges, and one edge more. */
+void begin_table(const char *name, size_t n);
+void edge(size_t from, size_t to);
+
+/* Whether the current table is so small that everything can be asked about it, or so large that little can. */
+bool table_is_tiny(void);
+bool table_is_large(void);
+
+/* How often to ask: most where tables are neither so many as the small ones nor large. */
+size_t rounds(size_t most);
+
+/* The collection T of document 01. */
+void make_T(void);
+
+/* The tables of a family have at most 4 n edges. */
+struct family {
+    const char *name;
+    void (*make)(size_t n);
+    bool nested;
+};
+extern const struct family families[];
+extern const size_t family_count;
+void make_table(const struct family *f, size_t n);
+
+/* Asks about every table of up to 3 vertices and 4 edges, every set of edges on 3 vertices, and every set of edges without loops on 4. */
+void all_small_tables(void (*ask)(void));
+
+/* Asks about every family with few vertices, and with numbers of vertices around those where a word of a set begins. */
+void structured_tables(void (*ask)(void));
+
+/* Asks about drawn tables, of up to 12, 40 and 200 vertices. */
+void drawn_tables(void (*ask)(void));
+
+/* Asks about every family at 65,536 vertices, some of them filled up to 262,144 edges. */
+void largest_tables(void (*ask)(void));
+
+#endif

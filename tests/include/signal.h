@@ -1,0 +1,4 @@
+void (*signal(int number, void (*handler)(int)))(int);
+#define SIGBUS 7
+#define SIGFPE 8
+#define SIGSEGV 11

@@ -1,0 +1,1 @@
+void _Exit(int status);
