@@ -20,16 +20,16 @@ use Rattle.waiting.specs.declared.Part.{Part}
 use Rattle.waiting.specs.Records.{none}
 use Rattle.pivot.specs.declared.chooser.Chooser.{Chooser}
 use Rattle.pivot.specs.Chosen.{Advanced}
-use Rattle.decompose.specs.declared.machine.Machine.{Machine}
-use Rattle.decompose.specs.Aim.{ring, aim, goes, aimed}
+use Rattle.machine.specs.declared.Machine.{Machine}
+use Rattle.machine.specs.Aim.{ring, aim, goes, aimed}
 use Rattle.parts.specs.Divide.{DivideAsk, Handed}
-use Rattle.decompose.specs.Waits.{Waits, waitingCount, firstOf}
-use Rattle.decompose.specs.Machine.{base, clearing, handing, dividing, Whole, parted, sliced, CutAsk, Stepped, clears, hands, divides}
+use Rattle.machine.specs.Waits.{Waits, waitingCount, firstOf}
+use Rattle.machine.specs.Machine.{base, clearing, handing, dividing, Whole, parted, sliced, CutAsk, Stepped, clears, hands, divides}
 use Rattle.decompose.specs.Running.{Slicing, Running, Went}
 use Rattle.decompose.specs.Turns.{TurnAsk, Turned, DriveAsk, Ran, idle, ran, Driven}
-use Rattle.decompose.proofs.Ring.{wrapped-low, wrapped-one}
-use Rattle.decompose.proofs.Waiting.{waits-few, waits-same, waits-divide, waits-divided}
-use Rattle.decompose.proofs.Aiming.{Mode, clear, hand, take, stop, mode, aim-clear, aim-hand, goes-stop, Takes, takes}
+use Rattle.machine.proofs.Ring.{wrapped-low, wrapped-one}
+use Rattle.machine.proofs.Waiting.{waits-few, waits-same, waits-divide, waits-divided}
+use Rattle.machine.proofs.Aiming.{Mode, clear, hand, take, stop, mode, aim-clear, aim-hand, goes-stop, Takes, takes}
 
 -- what is left to do: vertices to label, parts to hand out, records to take, places to clear
 abbrev pub togo : ℕ → List ℕ → List ℕ → Machine → ℕ

@@ -1,8 +1,4 @@
-pub mod Ring
-pub mod Waiting
-pub mod Aiming
 pub mod Driving
-pub mod Cutting
 pub mod Accepting
 pub mod Starting
 pub mod Promising

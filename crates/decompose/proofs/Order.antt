@@ -6,7 +6,7 @@ use Rattle.graph.specs.Graph.{Graph}
 use Rattle.pivot.specs.Order.{Arranged}
 use Rattle.parts.specs.State.{ord}
 use Rattle.parts.specs.Divide.{Handed}
-use Rattle.decompose.specs.Machine.{Cut, parted, sliced}
+use Rattle.machine.specs.Machine.{Cut, parted, sliced}
 use Rattle.decompose.proofs.Starting.{arranged-same}
 
 pub order-kept : {g : Graph} {b h top : ℕ} {w ws w' ws' : List ℕ} {top' children : ℕ} (list : List ℕ)

@@ -24,19 +24,19 @@ use Rattle.parts.proofs.Rings.{is-ring}
 use Rattle.waiting.specs.declared.Part.{Part}
 use Rattle.waiting.specs.Records.{none}
 use Rattle.pivot.specs.declared.chooser.Chooser.{Chooser}
-use Rattle.decompose.specs.declared.machine.Machine.{Machine}
+use Rattle.machine.specs.declared.Machine.{Machine}
 use Rattle.decompose.specs.declared.finish.Answer.{Answer}
-use Rattle.decompose.specs.Aim.{aim, goes, aimed}
-use Rattle.decompose.specs.Machine.{base}
-use Rattle.decompose.specs.Waits.{firstOf}
+use Rattle.machine.specs.Aim.{aim, goes, aimed}
+use Rattle.machine.specs.Machine.{base}
+use Rattle.machine.specs.Waits.{firstOf}
 use Rattle.decompose.specs.Running.{Slicing, Running, Went}
 use Rattle.decompose.specs.Turns.{DriveAsk, Ran, idle, ran, Driven}
 use Rattle.decompose.specs.Begin.{Started, idleWith, firstOne, Begun, refused, nothing, begun}
 use Rattle.decompose.specs.Finish.{Room, FinishAsk, Ended, refusing, doing}
 use Rattle.decompose.specs.Plain.{still, PlainBegun, Plainly}
 use Rattle.decompose.specs.Promise.{refusalOf, call, after, Promise}
-use Rattle.decompose.proofs.Waiting.{waits-same}
-use Rattle.decompose.proofs.Aiming.{goes-clear, stopped}
+use Rattle.machine.proofs.Waiting.{waits-same}
+use Rattle.machine.proofs.Aiming.{goes-clear, stopped}
 use Rattle.decompose.proofs.Accepting.{Accepted, accepted}
 use Rattle.decompose.proofs.Starting.{rings-begin}
 

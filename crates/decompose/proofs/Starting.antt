@@ -26,7 +26,7 @@ use Rattle.parts.specs.Divide.{Blank}
 use Rattle.parts.proofs.Choice.{arranged-placed}
 use Rattle.parts.proofs.Rings.{ring-is}
 use Rattle.decompose.specs.Begin.{Put, StartAsk, Started, listOf}
-use Rattle.decompose.specs.Machine.{base}
+use Rattle.machine.specs.Machine.{base}
 
 pub put-none : (x : ℕ) (f : ℕ → ℕ) (w : List ℕ) → Put x 0 f w w
 put-none x f w = record { here = λ j h. absurd (not-suc-le-zero h); low = λ j h. refl; high = λ j h. refl; long = refl }

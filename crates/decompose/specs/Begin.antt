@@ -13,10 +13,10 @@ use Rattle.parts.specs.Divide.{Blank}
 use Rattle.pivot.specs.Order.{Arranged}
 use Rattle.pivot.specs.declared.chooser.Chooser.{Chooser}
 use Rattle.waiting.specs.Records.{none}
-use Rattle.decompose.specs.declared.machine.Machine.{Machine}
-use Rattle.decompose.specs.Aim.{aimed}
-use Rattle.decompose.specs.Machine.{base, Whole}
-use Rattle.decompose.specs.Waits.{Waits}
+use Rattle.machine.specs.declared.Machine.{Machine}
+use Rattle.machine.specs.Aim.{aimed}
+use Rattle.machine.specs.Machine.{base, Whole}
+use Rattle.machine.specs.Waits.{Waits}
 use Rattle.decompose.specs.Promise.{refusalOf}
 
 -- len numbers from x on were put, each by its place

@@ -5,7 +5,7 @@ use mathlib.Core.List.{List}
 use lib.ListN.{length}
 use Rattle.graph.specs.Memory.{ClearAsk, Cleared}
 use Rattle.regions.specs.Regions.{Copied}
-use Rattle.decompose.specs.declared.machine.Machine.{Machine}
+use Rattle.machine.specs.declared.Machine.{Machine}
 use Rattle.decompose.specs.declared.finish.Answer.{Answer}
 use Rattle.decompose.specs.declared.finish.Answer.the-variants.{Done, Refused}
 

@@ -1,6 +1,3 @@
-pub mod Aim
-pub mod Waits
-pub mod Machine
 pub mod Running
 pub mod Turns
 pub mod Promise

@@ -5,7 +5,7 @@ use lib.ListN.{replicate}
 use Rattle.waiting.specs.declared.Part.{Part}
 use Rattle.waiting.specs.Records.{none}
 use Rattle.pivot.specs.declared.chooser.Chooser.{Chooser}
-use Rattle.decompose.specs.declared.machine.Machine.{Machine}
+use Rattle.machine.specs.declared.Machine.{Machine}
 use Rattle.decompose.specs.declared.finish.Answer.{Answer}
 use Rattle.decompose.specs.Begin.{Begun}
 use Rattle.decompose.specs.Promise.{call, after, Promise}

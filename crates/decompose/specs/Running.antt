@@ -11,11 +11,11 @@ use Rattle.parts.specs.State.{labelled, rings}
 use Rattle.waiting.specs.declared.Part.{Part}
 use Rattle.waiting.specs.Records.{none}
 use Rattle.pivot.specs.declared.chooser.Chooser.{Chooser}
-use Rattle.decompose.specs.declared.machine.Machine.{Machine}
-use Rattle.decompose.specs.Aim.{ring, aim, goes}
-use Rattle.decompose.specs.Waits.{Waits, waitingCount, firstOf}
+use Rattle.machine.specs.declared.Machine.{Machine}
+use Rattle.machine.specs.Aim.{ring, aim, goes}
+use Rattle.machine.specs.Waits.{Waits, waitingCount, firstOf}
 use Rattle.parts.specs.Divide.{Blank}
-use Rattle.decompose.specs.Machine.{base, Whole}
+use Rattle.machine.specs.Machine.{base, Whole}
 
 -- the whole collection has still to be sliced
 pub record Slicing (n b : ℕ) (ys : List Part) (num : List ℕ) (s : Machine) : Type 0 where

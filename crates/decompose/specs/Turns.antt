@@ -7,8 +7,8 @@ use Rattle.waiting.specs.declared.Part.{Part}
 use Rattle.waiting.specs.Records.{none}
 use Rattle.pivot.specs.declared.chooser.Chooser.{Chooser}
 use Rattle.pivot.specs.Chosen.{Advanced}
-use Rattle.decompose.specs.declared.machine.Machine.{Machine}
-use Rattle.decompose.specs.Machine.{StepAsk, Stepped}
+use Rattle.machine.specs.declared.Machine.{Machine}
+use Rattle.machine.specs.Machine.{StepAsk, Stepped}
 use Rattle.decompose.specs.Running.{Running, Went}
 
 pub record TurnAsk (n : ℕ) (src tgt : List ℕ) (c : Chooser) (ys : List Part) (num wor : List ℕ) (s : Machine) : Type 0 where

@@ -1,7 +1,7 @@
 // The end of a decomposition: the colours become the label column, and the working memory is zeroed.
 ghost use Rattle.decompose.specs.Finish.{FinishAsk, Ended};
-use crate::machine::Machine;
 use index::memory;
+use machine::Machine;
 
 pub enum Answer {
     Done { draws: usize },

@@ -6,9 +6,7 @@ use waiting::Part;
 
 mod begin;
 pub mod finish;
-mod machine;
 pub mod plain;
-mod step;
 mod turns;
 
 // The labels by method 0 or 1; parts wait on the lent list, pivots are chosen by the lent chooser.

@@ -7,8 +7,8 @@ ghost use Rattle.decompose.specs.Plain.{still, PlainBegun, Plainly};
 use crate::begin;
 use crate::finish;
 use crate::finish::Answer;
-use crate::machine::Machine;
 use crate::turns;
+use machine::Machine;
 use pivot::chooser::Chooser;
 use waiting::Part;
 

@@ -1,7 +1,7 @@
 // The turns of the machine on the lent list and the lent chooser: thin walks over the covered step.
 ghost use Rattle.decompose.specs.Turns.{TurnAsk, Turned, DriveAsk, Driven};
-use crate::machine::Machine;
-use crate::step;
+use machine::Machine;
+use machine::step;
 use pivot::chooser::Chooser;
 use waiting::Part;
 

@@ -46,9 +46,9 @@ use Rattle.pivot.specs.declared.chooser.Chooser.{Chooser}
 use Rattle.pivot.proofs.Lent.{lend-at, back-at}
 use Rattle.pivot.proofs.chooser.Chooser as K
 use Rattle.pivot.proofs.chooser.Chooser.Laws as K′
-use Rattle.decompose.specs.declared.machine.Machine.{Machine}
-use Rattle.decompose.proofs.machine.Machine as O
-use Rattle.decompose.proofs.machine.Machine.Laws as O′
+use Rattle.machine.specs.declared.Machine.{Machine}
+use Rattle.machine.proofs.Machine as O
+use Rattle.machine.proofs.Machine.Laws as O′
 use lib.Dec.{lit<}
 use types.Tokens.{lft-new, lft-end}
 use types.SemTy.{cells, Arr, Body}

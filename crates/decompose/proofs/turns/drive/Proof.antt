@@ -50,9 +50,9 @@ use Rattle.waiting.proofs.Part as P
 use Rattle.pivot.specs.declared.chooser.Chooser.{Chooser}
 use Rattle.pivot.proofs.Lent.{lend-at, back-at, lend-ref, back-ref}
 use Rattle.pivot.proofs.chooser.Chooser as K
-use Rattle.decompose.specs.declared.machine.Machine.{Machine}
-use Rattle.decompose.proofs.machine.Machine as O
-use Rattle.decompose.proofs.machine.Machine.Laws as O′
+use Rattle.machine.specs.declared.Machine.{Machine}
+use Rattle.machine.proofs.Machine as O
+use Rattle.machine.proofs.Machine.Laws as O′
 use Rattle.decompose.specs.Turns.{TurnAsk, Turned, DriveAsk, Ran, Driven}
 use Rattle.decompose.proofs.Driving.{togo, driving-begin, driving-ask, driving-turn, driving-less, driving-end}
 use Rattle.decompose.proofs.turns.drive.Code.Mir as body

@@ -49,10 +49,10 @@ use Rattle.pivot.specs.Chosen.{Advanced}
 use Rattle.pivot.proofs.Lent.{lend-at, back-at, lend-ref, back-ref}
 use Rattle.pivot.proofs.chooser.Chooser as K
 use Rattle.pivot.proofs.chooser.Chooser.Laws as K′
-use Rattle.decompose.specs.declared.machine.Machine.{Machine}
-use Rattle.decompose.proofs.machine.Machine as O
-use Rattle.decompose.proofs.machine.Machine.Laws as O′
-use Rattle.decompose.specs.Machine.{StepAsk, Stepped}
+use Rattle.machine.specs.declared.Machine.{Machine}
+use Rattle.machine.proofs.Machine as O
+use Rattle.machine.proofs.Machine.Laws as O′
+use Rattle.machine.specs.Machine.{StepAsk, Stepped}
 use Rattle.decompose.specs.Turns.{TurnAsk, Turned}
 use Rattle.waiting.proofs.take as take
 use Rattle.waiting.proofs.take.Symbol as take-def
@@ -62,10 +62,10 @@ use Rattle.pivot.proofs.chooser.copy as copy
 use Rattle.pivot.proofs.chooser.copy.Symbol as copy-def
 use Rattle.pivot.proofs.chooser.copy.Symbol.{name as #pivot·chooser·copy}
 use Rattle.pivot.proofs.chooser.copy.Met as copy-thm
-use Rattle.decompose.proofs.step.step as step
-use Rattle.decompose.proofs.step.step.Symbol as step-def
-use Rattle.decompose.proofs.step.step.Symbol.{name as #decompose·step·step}
-use Rattle.decompose.proofs.step.step.Met as step-thm
+use Rattle.machine.proofs.step.step as step
+use Rattle.machine.proofs.step.step.Symbol as step-def
+use Rattle.machine.proofs.step.step.Symbol.{name as #machine·step·step}
+use Rattle.machine.proofs.step.step.Met as step-thm
 use Rattle.waiting.proofs.put as put
 use Rattle.waiting.proofs.put.Symbol as put-def
 use Rattle.waiting.proofs.put.Symbol.{name as #waiting·put}
@@ -206,7 +206,7 @@ module _ {M : Type 1} (𝓤 : URA M) (H : Heap 𝓤) (A : Atoms 𝓤) (W : Given
       qed W ((‵ (flft (νa ∷ []) fullShare) ⊛ ‵ (MutRef (named 0) (νa ∷ []) K.the-row .own (r₂ δa (va)) (vptr b₂ o₂ ∷ []))) ∷ []) ∵
       split ! $ nothing ! $ move ! (1 ∷ 0 ∷ []) $ join ! $ nothing ! $ owned ! usize (Is usize) (uint-makes 𝓤 H A W w64) m-k _ (refl, h-k) $ fjoin ! $ move ! (2 ∷ 0 ∷ []) $ fjoin ! $ move ! (1 ∷ 0 ∷ []) $ join ! $ frame ! $ done !
 
-  module _ (C : Calls 𝓤 H) (Λ : Loops 𝓤 H) (fm : FmC 𝓤 H (W .laws) C) (known-take : Triple 𝓤 (C #waiting·take) (Take 𝓤 H A mem run)) (known-copy : Triple 𝓤 (C #pivot·chooser·copy) (Copy 𝓤 H A mem run)) (known-step : Triple 𝓤 (C #decompose·step·step) (Step 𝓤 H A mem run)) (known-put : Triple 𝓤 (C #waiting·put) (Put 𝓤 H A mem run)) (known-draws : Triple 𝓤 (C #pivot·chooser·draws) (Draws 𝓤 H A mem run)) where
+  module _ (C : Calls 𝓤 H) (Λ : Loops 𝓤 H) (fm : FmC 𝓤 H (W .laws) C) (known-take : Triple 𝓤 (C #waiting·take) (Take 𝓤 H A mem run)) (known-copy : Triple 𝓤 (C #pivot·chooser·copy) (Copy 𝓤 H A mem run)) (known-step : Triple 𝓤 (C #machine·step·step) (Step 𝓤 H A mem run)) (known-put : Triple 𝓤 (C #waiting·put) (Put 𝓤 H A mem run)) (known-draws : Triple 𝓤 (C #pivot·chooser·draws) (Draws 𝓤 H A mem run)) where
     walk : Room u32 (length sources) → Room u32 (length targets) → Room P.the-row (length parts) → Room u32 (length numbers) → Room u64 (length words) → TurnAsk n sources targets chooser parts numbers words s → ent 𝓤 (onEntry 𝓤 H A f.signature (κ₀, (κ₁, (κ₂, (κ₃, (κ₄, (κ₅, tt)))))) (q₀, (q₁, (q₂, (q₃, (q₄, (q₅, tt)))))) a vals) (WpFn 𝓤 H C Λ code.function (vint w64 n ∷ s₀ ∷ s₁ ∷ vptr b₂ o₂ ∷ s₃ ∷ s₄ ∷ s₅ ∷ O′.lowered s ∷ []) Post)
     walk room₀ room₁ room₃ room₄ room₅ pre =
         qed W ((‵ (flft κ₀ q₀) ⊛ ‵ (flft κ₁ q₁) ⊛ ‵ (flft κ₂ q₂) ⊛ ‵ (flft κ₃ q₃) ⊛ ‵ (flft κ₄ q₄) ⊛ ‵ (flft κ₅ q₅) ⊛ ‵ ftrue) ∷ ‵ (owns (usize ∷ ShrSlice (named 0) κ₀ u32 ∷ ShrSlice (named 1) κ₁ u32 ∷ MutRef (named 2) κ₂ K.the-row ∷ MutSlice (named 3) κ₃ P.the-row ∷ MutSlice (named 4) κ₄ u32 ∷ MutSlice (named 5) κ₅ u64 ∷ O.the-row ∷ []) a vals) ∷ []) ∵ enter ! C Λ code.function (vint w64 n ∷ s₀ ∷ s₁ ∷ vptr b₂ o₂ ∷ s₃ ∷ s₄ ∷ s₅ ∷ O′.lowered s ∷ []) _ $
@@ -515,14 +515,14 @@ module _ {M : Type 1} (𝓤 : URA M) (H : Heap 𝓤) (A : Atoms 𝓤) (W : Given
         by ! (exits (x₃) (subst (Is O.the-row x₃) (LL.tells O.the-type O′.the-laws x₃ _ is₃) is₃) (z₅ .0) (z₄ .0) (z₃ .1 .1 .1 .0) (z₃ .1 .1 .1 .1 .0) (l₄a ∙ l₁a) (l₃c) (l₃d) (turned e₁ e₂ e₃ e₄ e₅)))))))))))))))))))))))))))))))))))))))))))))))))))))))))))))))
 
 module _ {M : Type 1} (𝓤 : URA M) (H : Heap 𝓤) (A : Atoms 𝓤) (W : Given 𝓤 H A) (mem : Memory → SProp 𝓤) (run : Routine → Fun 𝓤) where
-  turn-walks : (C : Calls 𝓤 H) (Λ : Loops 𝓤 H) → FmC 𝓤 H (W .laws) C → Triple 𝓤 (C #waiting·take) (Take 𝓤 H A mem run) → Triple 𝓤 (C #pivot·chooser·copy) (Copy 𝓤 H A mem run) → Triple 𝓤 (C #decompose·step·step) (Step 𝓤 H A mem run) → Triple 𝓤 (C #waiting·put) (Put 𝓤 H A mem run) → Triple 𝓤 (C #pivot·chooser·draws) (Draws 𝓤 H A mem run) → Walks 𝓤 H A f.ended stayed (WpFn 𝓤 H C Λ code.function) (f.clauses 𝓤 H A mem run)
+  turn-walks : (C : Calls 𝓤 H) (Λ : Loops 𝓤 H) → FmC 𝓤 H (W .laws) C → Triple 𝓤 (C #waiting·take) (Take 𝓤 H A mem run) → Triple 𝓤 (C #pivot·chooser·copy) (Copy 𝓤 H A mem run) → Triple 𝓤 (C #machine·step·step) (Step 𝓤 H A mem run) → Triple 𝓤 (C #waiting·put) (Put 𝓤 H A mem run) → Triple 𝓤 (C #pivot·chooser·draws) (Draws 𝓤 H A mem run) → Walks 𝓤 H A f.ended stayed (WpFn 𝓤 H C Λ code.function) (f.clauses 𝓤 H A mem run)
   turn-walks C Λ fm k0 k1 k2 k3 k4 = walked 𝓤 H A f.ended stayed (f.clauses 𝓤 H A mem run) (WpFn 𝓤 H C Λ code.function) (λ κs. (uint-vals w64, (slice-vals, (slice-vals, (ptr-vals, (slice-vals, (slice-vals, (slice-vals, (LL.vals O.the-type O′.the-laws, tt)))))))))
       (λ κs. (uint-tells w64, (shr-slice-tells (named 0) (κs .0) u32, (shr-slice-tells (named 1) (κs .1 .0) u32, (mut-tells (named 2) (κs .1 .1 .0) K.the-row, (mut-slice-tells (named 3) (κs .1 .1 .1 .0) P.the-row, (mut-slice-tells (named 4) (κs .1 .1 .1 .1 .0) u32, (mut-slice-tells (named 5) (κs .1 .1 .1 .1 .1 .0) u64, (LL.tells O.the-type O′.the-laws, tt)))))))))
       (λ κs qs bounds a g are. needs 𝓤 (TurnAsk (a .0) (a .1 .0 .now) (a .1 .1 .0 .now) (a .1 .1 .1 .0 .now) (a .1 .1 .1 .1 .0 .now) (a .1 .1 .1 .1 .1 .0 .now) (a .1 .1 .1 .1 .1 .1 .0 .now) (a .1 .1 .1 .1 .1 .1 .1 .0)) _
       (walk 𝓤 H A W mem run (κs .0) (κs .1 .0) (κs .1 .1 .0) (κs .1 .1 .1 .0) (κs .1 .1 .1 .1 .0) (κs .1 .1 .1 .1 .1 .0) bounds (qs .0) (qs .1 .0) (qs .1 .1 .0) (qs .1 .1 .1 .0) (qs .1 .1 .1 .1 .0) (qs .1 .1 .1 .1 .1 .0)
       (a .0) (are .0 .1) (a .1 .0 .ptr .0) (a .1 .0 .ptr .1) (a .1 .0 .name) (a .1 .0 .now) (a .1 .1 .0 .ptr .0) (a .1 .1 .0 .ptr .1) (a .1 .1 .0 .name) (a .1 .1 .0 .now) (a .1 .1 .1 .0 .ptr .0) (a .1 .1 .1 .0 .ptr .1) (a .1 .1 .1 .0 .name) (a .1 .1 .1 .0 .now) (a .1 .1 .1 .1 .0 .ptr .0) (a .1 .1 .1 .1 .0 .ptr .1) (a .1 .1 .1 .1 .0 .name) (a .1 .1 .1 .1 .0 .now) (a .1 .1 .1 .1 .1 .0 .ptr .0) (a .1 .1 .1 .1 .1 .0 .ptr .1) (a .1 .1 .1 .1 .1 .0 .name) (a .1 .1 .1 .1 .1 .0 .now) (a .1 .1 .1 .1 .1 .1 .0 .ptr .0) (a .1 .1 .1 .1 .1 .1 .0 .ptr .1) (a .1 .1 .1 .1 .1 .1 .0 .name) (a .1 .1 .1 .1 .1 .1 .0 .now) (a .1 .1 .1 .1 .1 .1 .1 .0) (are .1 .1 .1 .1 .1 .1 .1 .0) C Λ fm k0 k1 k2 k3 k4 (are .1 .0 .0 .1) (are .1 .1 .0 .0 .1) (are .1 .1 .1 .1 .0 .0 .1) (are .1 .1 .1 .1 .1 .0 .0 .1) (are .1 .1 .1 .1 .1 .1 .0 .0 .1)))
 
-turn-meets : {M : Type 1} (𝓤 : URA M) (H : Heap 𝓤) (A : Atoms 𝓤) → Given 𝓤 H A → (mem : Memory → SProp 𝓤) (run : Routine → Fun 𝓤) (𝓣 : Tables 𝓤 H) → Triple 𝓤 (𝓣 .C #waiting·take) (Take 𝓤 H A mem run) → Triple 𝓤 (𝓣 .C #pivot·chooser·copy) (Copy 𝓤 H A mem run) → Triple 𝓤 (𝓣 .C #decompose·step·step) (Step 𝓤 H A mem run) → Triple 𝓤 (𝓣 .C #waiting·put) (Put 𝓤 H A mem run) → Triple 𝓤 (𝓣 .C #pivot·chooser·draws) (Draws 𝓤 H A mem run)
+turn-meets : {M : Type 1} (𝓤 : URA M) (H : Heap 𝓤) (A : Atoms 𝓤) → Given 𝓤 H A → (mem : Memory → SProp 𝓤) (run : Routine → Fun 𝓤) (𝓣 : Tables 𝓤 H) → Triple 𝓤 (𝓣 .C #waiting·take) (Take 𝓤 H A mem run) → Triple 𝓤 (𝓣 .C #pivot·chooser·copy) (Copy 𝓤 H A mem run) → Triple 𝓤 (𝓣 .C #machine·step·step) (Step 𝓤 H A mem run) → Triple 𝓤 (𝓣 .C #waiting·put) (Put 𝓤 H A mem run) → Triple 𝓤 (𝓣 .C #pivot·chooser·draws) (Draws 𝓤 H A mem run)
     → Meets 𝓤 H A f.signature (WpFn 𝓤 H (𝓣 .C) (𝓣 .Λ) code.function) (f.spec 𝓤 H A mem run)
 turn-meets 𝓤 H A W mem run 𝓣 k0 k1 k2 k3 k4 =
     walk-meets 𝓤 H A f.ended stayed W (goes-none 𝓤 H A W 6 (λ _. usize) yes (λ κs x f. refl), (goes-none-slice 𝓤 H A W 6 (0 ∷ []) tt (plain (λ _. u32)) yes, (goes-none-slice 𝓤 H A W 6 (1 ∷ []) tt (plain (λ _. u32)) yes, (goes-ref 𝓤 H A W 6 2 tt (plain (λ _. K.the-row)), (goes-slice 𝓤 H A W 6 3 tt (plain (λ _. P.the-row)), (goes-slice 𝓤 H A W 6 4 tt (plain (λ _. u32)), (goes-slice 𝓤 H A W 6 5 tt (plain (λ _. u64)), (goes-none 𝓤 H A W 6 (λ _. O.the-row) yes (λ κs x f. refl), tt)))))))) (f.clauses 𝓤 H A mem run)
@@ -536,6 +536,6 @@ turn-spec 𝓤 H 𝓜 𝓖 𝓡 =
     (turn-meets 𝓤 H (𝓖 .A) (givenOf 𝓤 H 𝓜 𝓖) (𝓜 .mem) (𝓡 .run) (tablesOf 𝓤 H 𝓜 (tables 𝓤 H 𝓜 𝓡 code.env))
     (cited 𝓤 H (Take 𝓤 H (𝓖 .A) (𝓜 .mem) (𝓡 .run)) 𝓜 𝓡 code.env #waiting·take take-def.routine code.calls-waiting·take (take-thm.met 𝓤 H 𝓜 𝓖 𝓡))
     (cited 𝓤 H (Copy 𝓤 H (𝓖 .A) (𝓜 .mem) (𝓡 .run)) 𝓜 𝓡 code.env #pivot·chooser·copy copy-def.routine code.calls-pivot·chooser·copy (copy-thm.met 𝓤 H 𝓜 𝓖 𝓡))
-    (cited 𝓤 H (Step 𝓤 H (𝓖 .A) (𝓜 .mem) (𝓡 .run)) 𝓜 𝓡 code.env #decompose·step·step step-def.routine code.calls-decompose·step·step (step-thm.met 𝓤 H 𝓜 𝓖 𝓡))
+    (cited 𝓤 H (Step 𝓤 H (𝓖 .A) (𝓜 .mem) (𝓡 .run)) 𝓜 𝓡 code.env #machine·step·step step-def.routine code.calls-machine·step·step (step-thm.met 𝓤 H 𝓜 𝓖 𝓡))
     (cited 𝓤 H (Put 𝓤 H (𝓖 .A) (𝓜 .mem) (𝓡 .run)) 𝓜 𝓡 code.env #waiting·put put-def.routine code.calls-waiting·put (put-thm.met 𝓤 H 𝓜 𝓖 𝓡))
     (cited 𝓤 H (Draws 𝓤 H (𝓖 .A) (𝓜 .mem) (𝓡 .run)) 𝓜 𝓡 code.env #pivot·chooser·draws draws-def.routine code.calls-pivot·chooser·draws (draws-thm.met 𝓤 H 𝓜 𝓖 𝓡)))

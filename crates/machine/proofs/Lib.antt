@@ -1,0 +1,4 @@
+pub mod Ring
+pub mod Waiting
+pub mod Aiming
+pub mod Cutting

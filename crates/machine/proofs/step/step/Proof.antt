@@ -1,0 +1,55 @@
+use native.Mathlib.Omega.{arith}
+use borrow.Author.Needs.{needs}
+use Rattle.machine.specs.Machine.{clears, hands}
+use Rattle.machine.proofs.step.step.Statement.{statement}
+use Rattle.machine.proofs.step.step.Tie as tie
+
+clear-requires : tie.Need-clear-requires
+clear-requires c κs = search needs
+
+returns : tie.Need-returns
+returns c =
+    let at-if1 = c .before in
+    rw (c .clear .ensures) (clears (at-if1 .if1 .taken))
+
+hand-requires : tie.Need-hand-requires
+hand-requires c κs =
+    let at-if2 = c .before in
+    let start = at-if2 .before .before .before .before .before .before .before .before in
+    let a = start .pre in
+    record { small = a .small; few = a .few; fits = a .fits; oldest = a .oldest; count = a .room (at-if2 .if2 .taken); given = omega (arith, a .pending, at-if2 .if2 .taken) }
+
+same-length : tie.Need-same-length
+same-length c = search needs
+
+returns-2 : tie.Need-returns-2
+returns-2 c =
+    let at-if2 = c .before .before in
+    let at-if1 = at-if2 .before .before in
+    rw (c .hand .ensures) (hands (at-if1 .if1 .left) (at-if2 .if2 .taken))
+
+take-requires : tie.Need-take-requires
+take-requires c κs = search needs
+
+same-length-2 : tie.Need-same-length-2
+same-length-2 c = search needs
+
+same-length-3 : tie.Need-same-length-3
+same-length-3 c = search needs
+
+returns-3 : tie.Need-returns-3
+returns-3 c = search needs
+
+pub step-spec : {M : Type 1} → statement M
+step-spec =
+    tie.close
+    (tie.spec
+    clear-requires
+    returns
+    hand-requires
+    same-length
+    returns-2
+    take-requires
+    same-length-2
+    same-length-3
+    returns-3)

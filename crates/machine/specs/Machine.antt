@@ -1,0 +1,143 @@
+-- One step of the machine.
+use Prim.Native.Nat.{ℕ, _+_, _*_, _-_, _≤_, _<_}
+use mathlib.Core.Path.{_≡_}
+use mathlib.Core.Bool.{cond}
+use mathlib.Core.List.{List}
+use lib.ListN.{length}
+use lib.Dec.{eqb}
+use Rattle.graph.specs.Graph.{Graph, graph}
+use Rattle.graph.specs.Limits.{mostVertices, mostEdges}
+use Rattle.parts.specs.Chain.{head}
+use Rattle.waiting.specs.declared.Part.{Part}
+use Rattle.waiting.specs.Records.{none}
+use Rattle.pivot.specs.declared.chooser.Chooser.{Chooser}
+use Rattle.machine.specs.declared.Machine.{Machine}
+use Rattle.paint.specs.Colours.{col}
+use Rattle.parts.specs.State.{labelled, rings}
+use Rattle.parts.specs.Divide.{DivideAsk, Handed}
+use Rattle.machine.specs.Aim.{wrapped, aimed}
+
+-- where the indexes end: the regions of the parts start here
+abbrev pub base : ℕ → List ℕ → ℕ
+base n src = 2 * (n + 1 + length src)
+
+-- one record more is set to zeros
+abbrev pub clearing : Machine → Machine
+clearing s =
+    record {
+      go = s .go;
+      read = s .read;
+      part = none;
+      draws = 0;
+      made = s .made;
+      refusal = s .refusal;
+      order = s .order;
+      cleared = s .cleared + 1;
+      oldest = s .oldest;
+      count = s .count;
+      given = s .given;
+      pending = s .pending;
+      slicing = s .slicing;
+      top = s .top;
+    }
+
+-- the next pending part goes to the list
+abbrev pub handing : ℕ → ℕ → List ℕ → Machine → Machine
+handing n b w s =
+    record {
+      go = s .go;
+      read = s .read;
+      part = record { first = head n b w (s .given); slicing = s .slicing };
+      draws = 0;
+      made = s .made;
+      refusal = s .refusal;
+      order = s .order;
+      cleared = s .cleared;
+      oldest = s .oldest;
+      count = s .count + 1;
+      given = s .given + 1;
+      pending = s .pending;
+      slicing = s .slicing;
+      top = s .top;
+    }
+
+-- the oldest record's place after one is taken: order 0 takes the newest
+abbrev pub olderThan : ℕ → Machine → ℕ
+olderThan n s = cond (eqb (s .order) 0) (s .oldest) (wrapped n (s .oldest + 1))
+
+-- the record taken was divided by k draws into so many children
+abbrev pub dividing : ℕ → Machine → (k top children : ℕ) → Machine
+dividing n s k top children =
+    record {
+      go = s .go;
+      read = s .read;
+      part = none;
+      draws = k;
+      made = s .made + k;
+      refusal = s .refusal;
+      order = s .order;
+      cleared = s .cleared;
+      oldest = olderThan n s;
+      count = s .count - 1;
+      given = 0;
+      pending = children;
+      slicing = 0;
+      top = top;
+    }
+
+-- the part at h is the whole collection, of the one colour n
+pub record Whole (n b h top : ℕ) (w : List ℕ) : Type 0 where
+  pub zero : h ≡ 0
+  pub colours : (v : ℕ) → v < n → col b w v ≡ n
+  pub first : top ≡ n + 1
+
+-- the part at h was divided with k draws: by method 0, or the whole by method 1
+pub data Cut (g : Graph) (b kind h top slicing : ℕ) (w ws w' ws' : List ℕ) (k top' children : ℕ) : Type 0 where
+  parted : Handed g b h top w ws w' ws' top' children → ((kind ≡ 1 → ⊥) → k ≡ 0)
+      → (kind ≡ 1 → rings g b w' ≤ rings g b w + k) → labelled g b w + k ≤ labelled g b w' → labelled g b w < labelled g b w' → Cut g b kind h top slicing w ws w' ws' k top' children
+  sliced : Handed g b h top w ws w' ws' top' children → ((kind ≡ 1 → ⊥) → k ≡ 0)
+      → (kind ≡ 1 → rings g b w' ≤ rings g b w + k) → k ≤ g .n → slicing ≡ 1 → Cut g b kind h top slicing w ws w' ws' k top' children
+
+pub record CutAsk (g : Graph) (b : ℕ) (p : Part) (top : ℕ) (w ws : List ℕ) : Type 0 where
+  pub ask : DivideAsk g b (p .first) top w ws
+  pub whole : p .slicing ≡ 1 → Whole (g .n) b (p .first) top w
+
+pub record ClearAsk (n : ℕ) (s : Machine) : Type 0 where
+  pub small : n ≤ mostVertices
+  pub oldest : s .oldest < n
+  pub count : s .count ≤ n
+  pub cleared : s .cleared ≤ n
+
+pub record HandAsk (n m : ℕ) (num : List ℕ) (s : Machine) : Type 0 where
+  pub small : n ≤ mostVertices
+  pub few : m ≤ mostEdges
+  pub fits : 2 * (n + 1 + m) + 10 * n + 2 ≤ length num
+  pub oldest : s .oldest < n
+  pub count : s .count < n
+  pub given : s .given < n
+
+pub record StepAsk (n : ℕ) (src tgt : List ℕ) (p : Part) (c : Chooser) (s : Machine) (num wor : List ℕ) : Type 0 where
+  pub small : n ≤ mostVertices
+  pub few : length src ≤ mostEdges
+  pub fits : base n src + 10 * n + 2 ≤ length num
+  pub cleared : s .cleared ≤ n
+  pub oldest : s .oldest < n
+  pub count : s .count ≤ n
+  pub pending : s .pending ≤ n
+  pub room : s .given < s .pending → s .count < n
+  pub made : s .made ≤ 2 * n
+  pub part : n ≤ s .cleared → s .pending ≤ s .given → (0 < s .count) × CutAsk (graph n src tgt) (base n src) p (s .top) num wor
+
+-- a record is cleared, or a pending part handed out, or the part of the record divided
+pub data Stepped (n : ℕ) (src tgt : List ℕ) (p : Part) (c : Chooser) (s : Machine) (num wor : List ℕ) : List ℕ → List ℕ → Machine → Type 0 where
+  clears : s .cleared < n → Stepped n src tgt p c s num wor num wor (aimed n (clearing s))
+  hands : n ≤ s .cleared → s .given < s .pending → Stepped n src tgt p c s num wor num wor (aimed n (handing n (base n src) num s))
+  divides : {num' wor' : List ℕ} {k top children : ℕ} → n ≤ s .cleared → s .pending ≤ s .given
+      → Cut (graph n src tgt) (base n src) (c .kind) (p .first) (s .top) (p .slicing) num wor num' wor' k top children
+      → Stepped n src tgt p c s num wor num' wor' (aimed n (dividing n s k top children))
+
+-- the record is to be divided
+pub record PartAsk (n : ℕ) (src tgt : List ℕ) (p : Part) (c : Chooser) (s : Machine) (num wor : List ℕ) : Type 0 where
+  pub ask : StepAsk n src tgt p c s num wor
+  pub cleared : n ≤ s .cleared
+  pub given : s .pending ≤ s .given

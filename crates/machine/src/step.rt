@@ -1,0 +1,160 @@
+// One step of the machine: a record is cleared, a pending part handed out, or a part divided.
+ghost use mathlib.Core.Path.{_≡_};
+ghost use Prim.Native.Nat.{_+_, _*_};
+ghost use lib.ListN.{length};
+ghost use Rattle.graph.specs.Graph.{graph};
+ghost use Rattle.machine.specs.Aim.{wrapped, aimed as aimedAt};
+ghost use Rattle.machine.specs.Machine.{base, clearing, handing, ClearAsk, HandAsk, CutAsk, Cut, PartAsk, StepAsk, Stepped, olderThan};
+use crate::Machine;
+use parts::divide;
+use parts::divide::Divided;
+use pivot::chooser::Chooser;
+use waiting::Part;
+
+// One record more is set to zeros.
+fn clear(n: usize, s: Machine) -> Machine
+    requires { ⌜ ClearAsk n s ⌝ }
+    ensures { λ e. ⌜ e ≡ aimedAt n (clearing s) ⌝ }
+{
+    let p = Part {
+        first: 0,
+        slicing: 0,
+    };
+    let cleared = s.cleared + 1;
+    let mut e = s;
+    e.part = p;
+    e.draws = 0;
+    e.cleared = cleared;
+    crate::aimed(n, e)
+}
+
+// The next pending part goes to the list.
+fn hand(n: usize, edges: usize, numbers: &[u32], s: Machine) -> Machine
+    requires { ⌜ HandAsk n edges (now numbers) s ⌝ }
+    ensures { λ e. ⌜ e ≡ aimedAt n (handing n (2 * (n + 1 + edges)) (now (numbers .entry)) s) ⌝ }
+{
+    let i = 2 * (n + 1 + edges) + 8 * n + 2 + s.given;
+    let p = Part {
+        first: numbers[i],
+        slicing: s.slicing,
+    };
+    let count = s.count + 1;
+    let given = s.given + 1;
+    let mut e = s;
+    e.part = p;
+    e.draws = 0;
+    e.count = count;
+    e.given = given;
+    crate::aimed(n, e)
+}
+
+// The part of a record is divided: the whole by method 1, if it has still to be sliced, else by method 0.
+fn cut(
+    n: usize,
+    sources: &[u32],
+    targets: &[u32],
+    numbers: &mut [u32],
+    words: &mut [u64],
+    part: Part,
+    chooser: Chooser,
+    top: usize,
+) -> Divided
+    requires { ⌜ CutAsk (graph n (now sources) (now targets)) (base n (now sources)) part top (now numbers) (now words) ⌝ }
+    ensures { λ r. ⌜ Cut (graph n (now (sources .entry)) (now (targets .entry))) (base n (now (sources .entry))) (chooser .kind) (part .first) top (part .slicing) (now (numbers .entry)) (now (words .entry)) (now (numbers .exit)) (now (words .exit)) (r .draws) (r .top) (r .children) ⌝ }
+{
+    let b = 2 * (n + 1 + sources.len());
+    if part.slicing == 1 {
+        return slices::divide::divide(
+            sources,
+            targets,
+            n,
+            numbers,
+            words,
+            b,
+            chooser.kind,
+            chooser.state,
+            top,
+        );
+    }
+    divide::divide(
+        sources,
+        targets,
+        n,
+        numbers,
+        words,
+        b,
+        chooser.kind,
+        chooser.state,
+        part.first as usize,
+        top,
+    )
+}
+
+// The oldest record's place after one is taken: order 0 takes the newest.
+fn older(n: usize, s: Machine) -> usize
+    requires { ⌜ ClearAsk n s ⌝ }
+    ensures { λ r. ⌜ r ≡ olderThan n s ⌝ }
+{
+    if s.order == 0 {
+        return s.oldest;
+    }
+    crate::wrap(n, s.oldest + 1)
+}
+
+// The record that was taken is divided, and its children are pending.
+fn take(
+    n: usize,
+    sources: &[u32],
+    targets: &[u32],
+    numbers: &mut [u32],
+    words: &mut [u64],
+    part: Part,
+    chooser: Chooser,
+    s: Machine,
+) -> Machine
+    requires { ⌜ PartAsk n (now sources) (now targets) part chooser s (now numbers) (now words) ⌝ }
+    ensures { λ e. ⌜ Stepped n (now (sources .entry)) (now (targets .entry)) part chooser s (now (numbers .entry)) (now (words .entry)) (now (numbers .exit)) (now (words .exit)) e ⌝ }
+{
+    let r = cut(n, sources, targets, numbers, words, part, chooser, s.top);
+    let empty = Part {
+        first: 0,
+        slicing: 0,
+    };
+    let made = s.made + r.draws;
+    let oldest = older(n, s);
+    let count = s.count - 1;
+    let mut e = s;
+    e.part = empty;
+    e.draws = r.draws;
+    e.made = made;
+    e.oldest = oldest;
+    e.count = count;
+    e.given = 0;
+    e.pending = r.children;
+    e.slicing = 0;
+    e.top = r.top;
+    crate::aimed(n, e)
+}
+
+// One step on the record that was taken.
+pub fn step(
+    n: usize,
+    sources: &[u32],
+    targets: &[u32],
+    numbers: &mut [u32],
+    words: &mut [u64],
+    part: Part,
+    chooser: Chooser,
+    s: Machine,
+) -> Machine
+    requires { ⌜ StepAsk n (now sources) (now targets) part chooser s (now numbers) (now words) ⌝ }
+    ensures { λ e. ⌜ Stepped n (now (sources .entry)) (now (targets .entry)) part chooser s (now (numbers .entry)) (now (words .entry)) (now (numbers .exit)) (now (words .exit)) e ⌝ }
+{
+    if s.cleared < n {
+        return clear(n, s);
+    }
+    if s.given < s.pending {
+        return hand(n, sources.len(), numbers, s);
+    }
+    take(n, sources, targets, numbers, words, part, chooser, s)
+}
