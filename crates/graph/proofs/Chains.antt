@@ -3,8 +3,11 @@ use Prim.Native.Nat.{ℕ, zero, suc, _+_, _≤_, _<_}
 use native.Mathlib.Omega.{arith}
 use native.Mathlib.Nat.{zero-add, suc-add, add-suc, add-zero}
 use mathlib.Core.Path.{_≡_, refl, sym, ap, subst}
+use mathlib.Core.List.{List}
+use mathlib.Core.Bool.{true}
 use mathlib.Core.Logic.{_↔_}
-use Rattle.graph.specs.Graph.{Graph, Part, Valid, Edge, Chain, stay, step, Reach, Same, IsLabel, all, rev}
+use lib.ListN.{length}
+use Rattle.graph.specs.Graph.{Graph, Part, Valid, Edge, Chain, stay, step, Reach, Same, IsLabel, all, graph, rev}
 
 module _ {g : Graph} {P : Part} where
   pub chain-first : {h u v : ℕ} → Chain g P h u v → P u
@@ -60,13 +63,14 @@ module _ {g : Graph} {P Q : Part} (f : (v : ℕ) → P v → Q v) where
 pub valid-rev : {g : Graph} → Valid g → Valid (rev g)
 valid-rev ok =
     record {
-      same = sym (ok .same);
-      from-low = λ e h. ok .to-low e (rw (← (ok .same)) h);
-      to-low = λ e h. ok .from-low e (rw (← (ok .same)) h);
+      long = ok .same;
+      same = ok .long;
+      from-low = ok .to-low;
+      to-low = ok .from-low;
     }
 
 pub edge-rev : {g : Graph} {e u v : ℕ} → Valid g → Edge g e u v → Edge (rev g) e v u
-edge-rev ok x = record { low = rw (ok .same) (x .low); counts = x .counts; leaves = x .enters; enters = x .leaves }
+edge-rev ok x = record { low = x .low; counts = x .counts; leaves = x .enters; enters = x .leaves }
 
 pub chain-rev : {g : Graph} {P : Part} {h u v : ℕ} → Valid g → Chain g P h u v → Chain (rev g) P h v u
 chain-rev ok (stay p) = stay p
@@ -123,3 +127,7 @@ module _ {g : Graph} (ok : Valid g) where
 
 pub same-low : {g : Graph} {u v : ℕ} → Valid g → Same g u v → u < g .n → v < g .n
 same-low ok s l = chain-to-low ok (s .there .1) l
+
+-- the columns changed places: the same as the table turned
+pub graph-turned : (n : ℕ) (s t : List ℕ) → length t ≡ length s → graph n t s ≡ rev (graph n s t)
+graph-turned n s t e = ap {B = Graph} (λ (m : ℕ). record { n = n; m = m; src = t; tgt = s; counted = λ e. true }) e

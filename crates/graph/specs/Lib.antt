@@ -1,6 +1,7 @@
 pub mod Limits
 pub mod Numbers
 pub mod Graph
+pub mod Arrows
 pub mod Parts
 pub mod Search
 pub mod Sets

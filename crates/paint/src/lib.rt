@@ -1,7 +1,7 @@
 // The search core. It paints colours, which stand in w from b on, one a vertex; behind them stands the queue.
 // A map of colours, a to a2 and c to c2, says where a search may go: 'permitted' is 'the map changes this colour'.
 ghost use mathlib.Core.Path.{_≡_};
-ghost use Rattle.graph.specs.Graph.{graph};
+ghost use Rattle.graph.specs.Arrows.{Some, Every};
 ghost use Rattle.graph.specs.Parts.{only};
 ghost use Rattle.paint.specs.Colours.{paint};
 ghost use Rattle.paint.specs.Paint.{VisitAsk, Visited, ScanAsk, Scanned, LevelAsk, Levelled, Spread, StartAsk, Searched};
@@ -52,10 +52,9 @@ pub fn visit(
     k + 1
 }
 
-// The edges at the places i0 .. t - 1 of the edge numbers, which stand in w from eb on, are looked at.
+// The neighbours at the places i0 .. t - 1 of the neighbours, which stand in w from eb on, are looked at.
 fn scan(
     n: usize,
-    to: &[u32],
     w: &mut [u32],
     eb: usize,
     i0: usize,
@@ -67,14 +66,13 @@ fn scan(
     c2: u32,
     k0: usize,
 ) -> usize
-    requires { ⌜ ScanAsk (paint a a2 c c2) n eb b (now to) i0 t (now w) k0 ⌝ }
-    ensures { λ k'. ⌜ Scanned (paint a a2 c c2) n eb b (now (to .entry)) i0 t (now (w .entry)) k0 (now (w .exit)) k' ⌝ }
+    requires { ⌜ ScanAsk (paint a a2 c c2) n eb b i0 t (now w) k0 ⌝ }
+    ensures { λ k'. ⌜ Scanned (paint a a2 c c2) n eb b i0 t (now (w .entry)) k0 (now (w .exit)) k' ⌝ }
 {
     let mut i = i0;
     let mut k = k0;
     while i < t {
-        let e = w[eb + i] as usize;
-        let x = to[e] as usize;
+        let x = w[eb + i] as usize;
         k = visit(n, w, b, x, a, a2, c, c2, k);
         i += 1;
     }
@@ -83,8 +81,6 @@ fn scan(
 
 // One level: the edges of the vertices at the places h .. k - 1 of the queue are looked at.
 pub fn level(
-    from: &[u32],
-    to: &[u32],
     n: usize,
     w: &mut [u32],
     ix: usize,
@@ -96,8 +92,8 @@ pub fn level(
     h: usize,
     k: usize,
 ) -> Step
-    requires { ⌜ LevelAsk (graph n (now from) (now to)) (paint a a2 c c2) ix b h (now w) k ⌝ }
-    ensures { λ s. ⌜ Levelled (graph n (now (from .entry)) (now (to .entry))) (paint a a2 c c2) b h k (now (w .entry)) k (now (w .exit)) (s .k) (s .edges) ⌝ }
+    requires { ⌜ Some n (λ g. LevelAsk g (paint a a2 c c2) ix b h (now w) k) ⌝ }
+    ensures { λ s. ⌜ Every n (λ g. LevelAsk g (paint a a2 c c2) ix b h (now (w .entry)) k → Levelled g (paint a a2 c c2) b h k (now (w .entry)) k (now (w .exit)) (s .k) (s .edges)) ⌝ }
 {
     let eb = ix + n + 1;
     let mut q = k;
@@ -107,7 +103,7 @@ pub fn level(
         let u = w[b + n + i] as usize;
         let s = w[ix + u] as usize;
         let t = w[ix + u + 1] as usize;
-        q = scan(n, to, w, eb, s, t, b, a, a2, c, c2, q);
+        q = scan(n, w, eb, s, t, b, a, a2, c, c2, q);
         edges += t - s;
         i += 1;
     }
@@ -116,8 +112,6 @@ pub fn level(
 
 // The search goes on from the k0 vertices of the queue, level by level, until the queue is used up.
 pub fn spread(
-    from: &[u32],
-    to: &[u32],
     n: usize,
     w: &mut [u32],
     ix: usize,
@@ -128,14 +122,14 @@ pub fn spread(
     c2: u32,
     k0: usize,
 ) -> Step
-    requires { ⌜ LevelAsk (graph n (now from) (now to)) (paint a a2 c c2) ix b 0 (now w) k0 ⌝ }
-    ensures { λ s. ⌜ Spread (graph n (now (from .entry)) (now (to .entry))) (paint a a2 c c2) b (now (w .entry)) k0 (s .k) (now (w .exit)) (s .k) (s .edges) ⌝ }
+    requires { ⌜ Some n (λ g. LevelAsk g (paint a a2 c c2) ix b 0 (now w) k0) ⌝ }
+    ensures { λ s. ⌜ Every n (λ g. LevelAsk g (paint a a2 c c2) ix b 0 (now (w .entry)) k0 → Spread g (paint a a2 c c2) b (now (w .entry)) k0 (s .k) (now (w .exit)) (s .k) (s .edges)) ⌝ }
 {
     let mut h = 0;
     let mut k = k0;
     let mut edges: usize = 0;
     while h < k {
-        let s = level(from, to, n, w, ix, b, a, a2, c, c2, h, k);
+        let s = level(n, w, ix, b, a, a2, c, c2, h, k);
         h = k;
         k = s.k;
         edges += s.edges;
@@ -145,8 +139,6 @@ pub fn spread(
 
 // What p reaches through colours that change is painted, and the queue ends holding it.
 pub fn search(
-    from: &[u32],
-    to: &[u32],
     n: usize,
     w: &mut [u32],
     ix: usize,
@@ -157,9 +149,9 @@ pub fn search(
     c: u32,
     c2: u32,
 ) -> Step
-    requires { ⌜ StartAsk (graph n (now from) (now to)) (paint a a2 c c2) ix b p (now w) ⌝ }
-    ensures { λ s. ⌜ Searched (graph n (now (from .entry)) (now (to .entry))) (paint a a2 c c2) b (only p) (now (w .entry)) (now (w .exit)) (s .k) (s .edges) ⌝ }
+    requires { ⌜ Some n (λ g. StartAsk g (paint a a2 c c2) ix b p (now w)) ⌝ }
+    ensures { λ s. ⌜ Every n (λ g. StartAsk g (paint a a2 c c2) ix b p (now (w .entry)) → Searched g (paint a a2 c c2) b (only p) (now (w .entry)) (now (w .exit)) (s .k) (s .edges)) ⌝ }
 {
     let k = visit(n, w, b, p, a, a2, c, c2, 0);
-    spread(from, to, n, w, ix, b, a, a2, c, c2, k)
+    spread(n, w, ix, b, a, a2, c, c2, k)
 }
