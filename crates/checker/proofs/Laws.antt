@@ -2,14 +2,16 @@
 use Prim.Native.Nat.{ℕ, _≤_, _<_}
 use native.Mathlib.Omega.{arith}
 use native.Mathlib.Nat.{suc-ne-zero}
-use mathlib.Core.Path.{_≡_}
+use mathlib.Core.Path.{_≡_, sym, ap, subst}
 use mathlib.Core.Bool.{Bool, true, false, not}
+use mathlib.Core.List.{List}
 use lib.Dec.{T, leb, eqb, leb→le}
 use borrow.Author.Tests.{eqb-true, ne-eqb, lt-ltb, le-ltb, not-false}
-use Rattle.graph.specs.Graph.{Graph, graph, edges}
+use Rattle.graph.specs.Graph.{Graph, Valid, graph, rev, edges}
 use Rattle.graph.specs.Refusal.{_or_, tableRefusal}
-use Rattle.graph.specs.Checker.{Columns, Sized, at, check1, check5, fault, verdict}
+use Rattle.graph.specs.Checker.{Columns, Sized, at, check1, check3, check5, fault, verdict}
 use Rattle.graph.proofs.Tests.{and-l}
+use Rattle.graph.proofs.Chains.{graph-turned, valid-rev}
 use Rattle.graph.proofs.Least.{least-found, least-none}
 use Rattle.graph.proofs.Refusals.{or-none, or-most, given-none, given-most, or-left-none, table-most, Passed, table-passed, passed-valid}
 use Rattle.checker.specs.Contract.{columns, Ready}
@@ -21,6 +23,14 @@ use Rattle.checker.specs.declared.Verdict.the-variants.{Accepted, Failed
 pub label-at-most : (c : Columns) (v : ℕ) → check1 c v ≡ true → at (c .label) v ≤ v
 unfolding check1
 label-at-most c v e = let t : T (check1 c v) = rw e tt in leb→le _ _ (and-l (leb (at (c .label) v) v) _ t)
+
+-- check 4 is check 3 with the table's columns exchanged
+module _ (n : ℕ) (s t : List ℕ) (ok : Valid (graph n s t)) where
+  pub valid-turned : Valid (graph n t s)
+  valid-turned = subst Valid (sym (graph-turned n s t (ok .same))) (valid-rev ok)
+
+  pub check-turned : (lab edge dist : List ℕ) (v : ℕ) → check3 (rev (graph n s t)) lab edge dist v ≡ check3 (graph n t s) lab edge dist v
+  check-turned lab edge dist v = ap (λ (g : Graph). check3 g lab edge dist v) (sym (graph-turned n s t (ok .same)))
 
 -- columns of which none has the wrong size
 sized : (n : ℕ) (c : Columns) → wrongSize n c ≡ false → Sized n c

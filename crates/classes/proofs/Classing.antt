@@ -15,13 +15,14 @@ use Rattle.graph.specs.Parts.{Fwd, only}
 use Rattle.graph.specs.Checker.{at}
 use Rattle.graph.proofs.Memory.{framed-none, framed-more}
 use Rattle.graph.proofs.Chains.{chain-wider, chain-last}
+use Rattle.paint.specs.Colours.{Kept}
 use Rattle.paint.specs.Distances.{Nearest, Has, MeasureAsk}
 use Rattle.paint.specs.Distances as paint-distances
 use Rattle.paint.proofs.Painting.{kept-none}
 use Rattle.paint.proofs.Spreading.{laid-kept, low-chain}
 use Rattle.regions.specs.Regions.{region}
 use Rattle.classes.specs.Classes.{class, OwnLabels, Near, Distances}
-use Rattle.classes.specs.Search.{Own, Coloured, Placed, DistancesAsk, ClassAsk, Classed, AllFound, Measured}
+use Rattle.classes.specs.Search.{Own, Coloured, Placed, Sorted, DistancesAsk, ClassAsk, Classed, AllFound, Measured}
 use Rattle.regions.proofs.Storing.{set-framed}
 
 pub own-test : (lab : List ℕ) (v : ℕ) → at lab v ≤ v → Own lab v (eqb (at lab (at lab v)) (at lab v))
@@ -54,6 +55,10 @@ module _ (n : ℕ) (lab : List ℕ) (b : ℕ) (w₀ : List ℕ) where
 -- what holds of the call holds after a change of colours
 pub ask-kept : {g : Graph} {lab : List ℕ} {ix b : ℕ} {w w′ : List ℕ} → DistancesAsk g lab ix b w → ((j : ℕ) → j < b → getD w′ j 0 ≡ getD w j 0) → length w′ ≡ length w → DistancesAsk g lab ix b w′
 ask-kept a low long = record { laid = laid-kept low (a .laid); small = a .small; size = a .size; own = a .own; fits = omega (arith, a .fits) }
+
+-- and so with the classes below l searched
+pub class-ask : {g : Graph} {lab : List ℕ} {ix b l : ℕ} {w₀ w : List ℕ} → ClassAsk g lab ix b 0 w₀ → l ≤ g .n → Kept (g .n) b w₀ w → Sorted g lab b l w → ClassAsk g lab ix b l w
+class-ask a o k s = record { ask = ask-kept (a .ask) (k .low) (k .long); low = o; sorted = s }
 
 module _ {g : Graph} {lab : List ℕ} {ix b l : ℕ} {w : List ℕ} (a : ClassAsk g lab ix b l w) (low : l < g .n) where
   -- l is no label: no vertex has it

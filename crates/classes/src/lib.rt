@@ -2,7 +2,7 @@
 ghost use mathlib.Core.Path.{_≡_};
 ghost use Prim.Native.Nat.{_+_, _≤_, _<_};
 ghost use lib.ListN.{length};
-ghost use Rattle.graph.specs.Graph.{graph};
+ghost use Rattle.graph.specs.Arrows.{Some, Every};
 ghost use Rattle.classes.specs.Search.{Own, Owned, ColourAsk, Coloured, ClassAsk, Classed, AllFound, DistancesAsk, Measured};
 use paint::distances as measuring;
 
@@ -47,34 +47,25 @@ fn colour(n: usize, label: &[u32], w: &mut [u32], b: usize)
 }
 
 // If l is a label, the vertices of its class get their distances from it.
-fn class(
-    from: &[u32],
-    to: &[u32],
-    n: usize,
-    label: &[u32],
-    w: &mut [u32],
-    ix: usize,
-    b: usize,
-    l: usize,
-)
-    requires { ⌜ ClassAsk (graph n (now from) (now to)) (now label) ix b l (now w) × (l < n) ⌝ }
-    ensures { λ _. ⌜ Classed (graph n (now (from .entry)) (now (to .entry))) (now (label .entry)) b (l + 1) (now (w .entry)) (now (w .exit)) ⌝ }
+fn class(n: usize, label: &[u32], w: &mut [u32], ix: usize, b: usize, l: usize)
+    requires { ⌜ Some n (λ g. ClassAsk g (now label) ix b l (now w)) × (l < n) ⌝ }
+    ensures { λ _. ⌜ Every n (λ g. ClassAsk g (now (label .entry)) ix b l (now (w .entry)) → Classed g (now (label .entry)) b (l + 1) (now (w .entry)) (now (w .exit))) ⌝ }
 {
     let x = label[l] as usize;
     if x != l {
         return;
     }
-    measuring::measure(from, to, n, w, ix, b, l, (n + 1 + l) as u32);
+    measuring::measure(n, w, ix, b, l, (n + 1 + l) as u32);
 }
 
 // One class after the other.
-fn classes(from: &[u32], to: &[u32], n: usize, label: &[u32], w: &mut [u32], ix: usize, b: usize)
-    requires { ⌜ ClassAsk (graph n (now from) (now to)) (now label) ix b 0 (now w) ⌝ }
-    ensures { λ _. ⌜ Classed (graph n (now (from .entry)) (now (to .entry))) (now (label .entry)) b n (now (w .entry)) (now (w .exit)) ⌝ }
+fn classes(n: usize, label: &[u32], w: &mut [u32], ix: usize, b: usize)
+    requires { ⌜ Some n (λ g. ClassAsk g (now label) ix b 0 (now w)) ⌝ }
+    ensures { λ _. ⌜ Every n (λ g. ClassAsk g (now (label .entry)) ix b 0 (now (w .entry)) → Classed g (now (label .entry)) b n (now (w .entry)) (now (w .exit))) ⌝ }
 {
     let mut l = 0;
     while l < n {
-        class(from, to, n, label, w, ix, b, l);
+        class(n, label, w, ix, b, l);
         l += 1;
     }
 }
@@ -96,19 +87,11 @@ fn found(n: usize, w: &[u32], b: usize) -> bool
 }
 
 // The distances from the labels; false if some vertex is not reached inside its class.
-pub fn distances(
-    from: &[u32],
-    to: &[u32],
-    n: usize,
-    label: &[u32],
-    w: &mut [u32],
-    ix: usize,
-    b: usize,
-) -> bool
-    requires { ⌜ DistancesAsk (graph n (now from) (now to)) (now label) ix b (now w) ⌝ }
-    ensures { λ r. ⌜ Measured (graph n (now (from .entry)) (now (to .entry))) (now (label .entry)) b (now (w .entry)) (now (w .exit)) r ⌝ }
+pub fn distances(n: usize, label: &[u32], w: &mut [u32], ix: usize, b: usize) -> bool
+    requires { ⌜ Some n (λ g. DistancesAsk g (now label) ix b (now w)) ⌝ }
+    ensures { λ r. ⌜ Every n (λ g. DistancesAsk g (now (label .entry)) ix b (now (w .entry)) → Measured g (now (label .entry)) b (now (w .entry)) (now (w .exit)) r) ⌝ }
 {
     colour(n, label, w, b);
-    classes(from, to, n, label, w, ix, b);
+    classes(n, label, w, ix, b);
     found(n, w, b)
 }

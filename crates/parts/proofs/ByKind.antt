@@ -11,7 +11,7 @@ use Rattle.graph.specs.Limits.{wordsOf}
 use Rattle.graph.specs.Pivot.{draws}
 use Rattle.graph.proofs.Lent.{front-long, front-in, front-out}
 use Rattle.sets.proofs.Store.{bit-same}
-use Rattle.parts.specs.Sweep.{Swept}
+use Rattle.parts.specs.Sweep.{SweepAsk, Swept}
 use Rattle.parts.specs.Drawn.{Empty, DrawnAsk, SweptDrawn}
 use Rattle.parts.specs.Divide.{Blank, KindAsk, KindSwept}
 use Rattle.parts.proofs.Sweeping.{sweeps-kind}
@@ -44,6 +44,9 @@ module _ {n : ℕ} {ws : List ℕ} (a : Blank n ws) where
 -- BY KIND
 module _ {g : Graph} {b h q top : ℕ} {w ws : List ℕ} (a : KindAsk g b h q top w ws) where
   -- the kinds 0 and 2
+  pub kind-ask : SweepAsk g b h q top w
+  kind-ask = record { stage = a .stage; runs = a .runs; known = a .known }
+
   pub kind-chain : {kind state : ℕ} → (kind ≡ 1 → ⊥) → {w' : List ℕ} {top' : ℕ} → Swept g b q 0 0 top w w' top' → KindSwept g b q kind state top w ws w' ws state 0 top'
   unfolding draws
   kind-chain {kind} o z = record {

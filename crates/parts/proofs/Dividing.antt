@@ -4,7 +4,6 @@ use native.Mathlib.Omega.{arith}
 use native.Mathlib.Decide.{ℕ-discrete}
 use mathlib.Core.Path.{_≡_, refl, sym, ap, _∙_}
 use mathlib.Core.Logic.{_⊎_, inl, inr, ⊎-elim}
-use mathlib.Core.Bool.{true}
 use mathlib.Core.List.{List}
 use lib.Dec.{T, ltb, ltb→lt, lt→ltb}
 use Rattle.graph.specs.Graph.{Graph, IsLabel}
@@ -103,14 +102,13 @@ module _ {g : Graph} {b h top : ℕ} {w ws : List ℕ} (a : DivideAsk g b h top 
   known : own (g .n) b w h < top
   known = a .stage .owned .below (ord (g .n) b w h) low-h
 
-  pub divide-trim : ((e : ℕ) → g .counted e ≡ true) → TrimAsk g b h (own (g .n) b w h) w
-  divide-trim cs = record {
-    fwd = record { valid = a .stage .tables .valid; counts = cs; few = a .stage .tables .few; below = omega (arith, a .stage .tables .below); index = a .stage .tables .fwd };
+  pub divide-trim : TrimAsk g b h (own (g .n) b w h) w
+  divide-trim = record {
+    fwd = record { valid = a .stage .tables .valid; few = a .stage .tables .few; below = omega (arith, a .stage .tables .below); index = a .stage .tables .fwd };
     bwd = record {
       valid = valid-rev (a .stage .tables .valid);
-      counts = cs;
-      few = omega (arith, a .stage .tables .few, a .stage .tables .valid .same);
-      below = omega (arith, a .stage .tables .below, a .stage .tables .valid .same);
+      few = a .stage .tables .few;
+      below = omega (arith, a .stage .tables .below);
       index = a .stage .tables .bwd;
     };
     small = a .stage .tables .small;

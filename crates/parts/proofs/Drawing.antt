@@ -29,10 +29,10 @@ use Rattle.paint.specs.Paint.{Searched}
 use Rattle.parts.specs.State.{Stage}
 use Rattle.parts.specs.Split.{Lowest, Named, SplitAsk}
 use Rattle.parts.specs.Sweep.{has, chosen, Sweeps, unswept, taken}
-use Rattle.parts.specs.Drawn.{Empty, Marks, EraseAsk, Erased, Cut, DrawAsk, Drawn, RunAsk, SweptDrawn}
+use Rattle.parts.specs.Drawn.{Empty, Marks, EraseAsk, Erased, CutAsk, Cut, DrawAsk, Drawn, RunAsk, DrawnAsk, SweptDrawn}
 use Rattle.parts.proofs.Marking.{tally-at}
 use Rattle.parts.proofs.Splitting.{queued, left, stays, split-all}
-use Rattle.parts.proofs.Sweeping.{sweeps-kept, sweeps-stage}
+use Rattle.parts.proofs.Sweeping.{split-ask, sweeps-kept, sweeps-stage}
 
 bool-same : (a b : Bool) → _≡_ {A = ℕ} (cond a 1 0) (cond b 1 0) → a ≡ b
 bool-same true true e = refl
@@ -129,6 +129,9 @@ module _ {g : Graph} {b p q f : ℕ} {w : List ℕ} (a : SplitAsk g b p q f w)
       }
 
 -- ONE DRAW
+pub draw-cut : {g : Graph} {b q top : ℕ} {w ws : List ℕ} {left : ℕ} → DrawAsk g b q top w ws left → {p : ℕ} → p < g .n → col b w p ≡ q → CutAsk g b p q top w ws left
+draw-cut a l e = record { split = split-ask (a .stage) l e (a .part); marks = a .marks }
+
 pub draw-all : {g : Graph} {b q state top : ℕ} {w ws : List ℕ} {left : ℕ} → DrawAsk g b q top w ws left
     → {p : ℕ} → (p < g .n) × (col b w p ≡ q) × (p ≡ chosen (g .n) b w q 1 state) → {w' ws' : List ℕ} {left' : ℕ} → Cut g b p q top w w' ws' left' → Drawn g b q state top w left w' ws' (draw state) left'
 draw-all {g} {b} {q} {w = w} a {p} (l, e, c) {w'} z = record {
@@ -151,6 +154,10 @@ draw-all {g} {b} {q} {w = w} a {p} (l, e, c) {w'} z = record {
         p l (λ t. omega (arith, eqb→eq (col b w' p) q t, z .split .pivot, a .part)) (eq-T (col b w p) q e),
   );
 }
+
+-- THE RUN
+pub run-ask : {g : Graph} {b h q top : ℕ} {w ws : List ℕ} → DrawnAsk g b h q top w ws → {ws' : List ℕ} {k : ℕ} → Marks (g .n) b q w ws' k → RunAsk g b q top w ws' k
+run-ask a z = record { stage = a .stage; part = omega (arith, a .runs .first .part, a .runs .live); known = a .known; marks = z }
 
 -- THE LOOP, after k draws
 pub record Drawing (g : Graph) (b q state top : ℕ) (w₀ w ws : List ℕ) (s k t left : ℕ) : Type 0 where

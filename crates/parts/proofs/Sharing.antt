@@ -4,37 +4,40 @@ use native.Mathlib.Omega.{arith}
 use native.Mathlib.Decide.{ℕ-discrete, decLt}
 use mathlib.Core.Path.{_≡_, refl, sym, ap, _∙_}
 use mathlib.Core.Logic.{inl, inr, ⊎-elim}
+use mathlib.Core.Bool.{Bool}
 use mathlib.Core.List.{List}
+use lib.Dec.{eqb, eqb→eq}
 use lib.ListN.{length, getD, set, drop, length-set}
 use lib.Seq.{getD-set-same, getD-set-other, getD-drop}
-use Rattle.graph.specs.Numbers.{tally}
-use Rattle.index.specs.Index.{count}
-use Rattle.index.proofs.Counts.{counts, count-zero, count-suc, same-yes, same-no}
+use Rattle.graph.specs.Numbers.{some-below, many}
+use Rattle.graph.proofs.Counts.{many-le, many-more}
+use Rattle.graph.proofs.Tests.{eq-T, some-below-iff}
 use Rattle.paint.specs.Colours.{col}
 use Rattle.parts.specs.State.{ord}
 use Rattle.parts.specs.Chain.{own, nxt, lst, head, Follows, First}
 use Rattle.parts.specs.Share.{Linked, HangAsk, Hung, UpTo, Last, Sharing, ShareAsk}
 
-tally-le : (f : ℕ → ℕ) (n : ℕ) → ((v : ℕ) → f v < 2) → tally f n ≤ n
-unfolding tally
-tally-le f zero h = omega arith
-tally-le f (suc n) h = omega (arith, tally-le f n h, h n)
-
 -- PIGEONS: k different numbers below n are at most n
 module _ (xs : List ℕ) (n k : ℕ) (low : (i : ℕ) → i < k → getD xs i 0 < n) (apart : (i j : ℕ) → i < j → j < k → getD xs i 0 ≡ getD xs j 0 → ⊥) where
-  unseen : (e v : ℕ) → e ≤ k → ((i : ℕ) → i < e → getD xs i 0 ≡ v → ⊥) → count xs e v ≡ 0
-  unseen zero v h o = count-zero xs v
-  unseen (suc e) v h o = omega (arith, count-suc xs e v, unseen e v (omega arith) (λ i l. o i (omega arith)), same-no (getD xs e 0) v (o e (omega arith)))
+  -- v is one of the first e
+  abbrev seen : ℕ → ℕ → Bool
+  seen e v = some-below e (λ i. eqb (getD xs i 0) v)
 
-  once : (e v : ℕ) → e ≤ k → count xs e v < 2
-  once zero v h = omega (arith, count-zero xs v)
-  once (suc e) v h = elim (ℕ-discrete (getD xs e 0) v) as (λ _. count xs (suc e) v < 2) [
-    | yes q ↦ omega (arith, count-suc xs e v, same-yes (getD xs e 0) v q, unseen e v (omega arith) (λ i l p. apart i e l (omega arith) (p ∙ sym q)))
-    | no q ↦ omega (arith, count-suc xs e v, same-no (getD xs e 0) v q, once e v (omega arith))
-  ]
+  -- each is seen for the first time
+  grows : (e : ℕ) → e ≤ k → e ≤ many (seen e) n
+  grows zero h = omega arith
+  grows (suc e) h = omega (
+    arith,
+    grows e (omega arith),
+    many-more (seen e) (seen (suc e)) n
+        (λ v l t. let (i, m, y) = some-below-iff e (λ i. eqb (getD xs i 0) v) .0 t in some-below-iff (suc e) (λ i. eqb (getD xs i 0) v) .1 (i, omega arith, y))
+        (getD xs e 0) (low e (omega arith))
+        (λ t. let (i, m, y) = some-below-iff e (λ i. eqb (getD xs i 0) (getD xs e 0)) .0 t in apart i e m (omega arith) (eqb→eq (getD xs i 0) (getD xs e 0) y))
+        (some-below-iff (suc e) (λ i. eqb (getD xs i 0) (getD xs e 0)) .1 (e, omega arith, eq-T (getD xs e 0) (getD xs e 0) refl)),
+  )
 
   pub pigeons : k ≤ n
-  pigeons = omega (arith, counts xs n k low, tally-le (count xs k) n (λ v. once k v (omega arith)))
+  pigeons = omega (arith, grows k (omega arith), many-le (seen k) n)
 
 -- three stores in places of their own
 module _ (w : List ℕ) (p x q y r z : ℕ) (hp : p < length w) (hq : q < length w) (hr : r < length w) (pq : p ≡ q → ⊥) (pr : p ≡ r → ⊥) (qr : q ≡ r → ⊥) where

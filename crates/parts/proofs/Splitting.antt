@@ -4,7 +4,6 @@ use native.Mathlib.Omega.{arith}
 use native.Mathlib.Decide.{ℕ-discrete}
 use mathlib.Core.Path.{_≡_, sym, ap, _∙_}
 use mathlib.Core.Logic.{_⊎_, inl, inr, ⊎-elim}
-use mathlib.Core.Bool.{true}
 use mathlib.Core.List.{List}
 use lib.ListN.{getD}
 use Rattle.graph.specs.Graph.{Graph, rev, Part, Valid, Same, edges}
@@ -12,7 +11,7 @@ use Rattle.graph.specs.Parts.{Closed, Fwd, Bwd, only}
 use Rattle.graph.proofs.Chains.{valid-rev, chain-last, same-refl, same-low}
 use Rattle.graph.proofs.Decompose.{shared-is-component}
 use Rattle.graph.proofs.Method.{component-label, bwd-rev}
-use Rattle.index.proofs.Moved.{indexed-kept}
+use Rattle.index.proofs.Moved.{held-kept}
 use Rattle.paint.specs.Colours.{col, que, paint, Opens, Hit}
 use Rattle.paint.specs.Paint.{StartAsk, Searched}
 use Rattle.paint.proofs.Painting.{kept-more, paint-first, paint-second, paint-still, paint-opens}
@@ -27,8 +26,8 @@ tables-kept g b w w' k t = record {
   few = t .few;
   small = t .small;
   below = t .below;
-  fwd = indexed-kept (g .src) (g .n) 0 w w' (t .valid .from-low) (λ j h l. k j (omega (arith, t .below))) (t .fwd);
-  bwd = indexed-kept (g .tgt) (g .n) (g .n + 1 + edges g) w w' (λ e h. t .valid .to-low e (omega (arith, t .valid .same))) (λ j h l. k j (omega (arith, t .below, t .valid .same))) (t .bwd);
+  fwd = held-kept g 0 w w' (λ j h l. k j (omega (arith, t .below))) (t .fwd);
+  bwd = held-kept (rev g) (g .n + 1 + edges g) w w' (λ j h l. k j (omega (arith, t .below))) (t .bwd);
 }
 
 -- THE PIVOT
@@ -48,10 +47,10 @@ module _ {g : Graph} {b p q f : ℕ} {w : List ℕ} (a : SplitAsk g b p q f w) w
   start-low : (v : ℕ) → only p v → v < g .n
   start-low v e = rw e at (a .start)
 
-  pub first-ask : ((e : ℕ) → g .counted e ≡ true) → StartAsk g (paint q f q f) 0 b p w
-  first-ask cs = record {
+  pub first-ask : StartAsk g (paint q f q f) 0 b p w
+  first-ask = record {
     ask = record {
-      laid = record { valid = ok; counts = cs; few = a .tables .few; below = omega (arith, a .tables .below); index = a .tables .fwd };
+      laid = record { valid = ok; few = a .tables .few; below = omega (arith, a .tables .below); index = a .tables .fwd };
       small = a .tables .small;
       fits = a .fits;
       still = paint-still q f q f (omega (arith, qf)) (omega (arith, qf)) (omega (arith, qf)) (omega (arith, qf));
@@ -86,17 +85,13 @@ module _ {g : Graph} {b p q f : ℕ} {w : List ℕ} (a : SplitAsk g b p q f w) w
         (λ t. inr (λ y. t .0 (F-hit v y), t .1))
         (s .each v h)
 
-    abbrev rx : ℕ
-    rx = g .n + 1 + edges g
-
-    pub second-ask : ((e : ℕ) → g .counted e ≡ true) → StartAsk (rev g) (paint q (f + 1) f (f + 2)) (g .n + 1 + edges g) b p w₁
-    second-ask cs = record {
+    pub second-ask : StartAsk (rev g) (paint q (f + 1) f (f + 2)) (g .n + 1 + edges g) b p w₁
+    second-ask = record {
       ask = record {
         laid = record {
           valid = valid-rev ok;
-          counts = cs;
-          few = omega (arith, a .tables .few, ok .same);
-          below = omega (arith, a .tables .below, ok .same);
+          few = a .tables .few;
+          below = omega (arith, a .tables .below);
           index = tables-kept g b w w₁ (s .kept .low) (a .tables) .bwd;
         };
         small = a .tables .small;

@@ -5,21 +5,21 @@ use mathlib.Core.Bool.{Bool, _&&_, not}
 use mathlib.Core.List.{List}
 use lib.ListN.{length}
 use lib.Dec.{ltb, eqb}
-use Rattle.graph.specs.Graph.{Graph, Valid, Same, IsLabel, edges}
+use Rattle.graph.specs.Graph.{Graph, Valid, Same, IsLabel, rev, edges}
 use Rattle.graph.specs.Limits.{mostVertices, mostEdges}
 use Rattle.graph.specs.Numbers.{some-below, many}
-use Rattle.index.specs.Index.{Indexed}
+use Rattle.index.specs.Index.{Held}
 use Rattle.paint.specs.Colours.{col}
 pub use Rattle.trim.specs.Chain.{ord}
 
--- The two indexes stand in the front of w, below b.
+-- The neighbours forward and backward stand in the front of w, below b.
 pub record Tables (g : Graph) (b : ℕ) (w : List ℕ) : Type 0 where
   pub valid : Valid g
   pub few : edges g ≤ mostEdges
   pub small : g .n ≤ mostVertices
   pub below : 2 * (g .n + 1 + edges g) ≤ b
-  pub fwd : Indexed (g .src) (g .n) 0 w
-  pub bwd : Indexed (g .tgt) (g .n) (g .n + 1 + edges g) w
+  pub fwd : Held g 0 w
+  pub bwd : Held (rev g) (g .n + 1 + edges g) w
 
 -- Colours are constant on components, those below n are the right labels, and all are below top.
 pub record Owned (g : Graph) (own : ℕ → ℕ) (top : ℕ) : Type 0 where

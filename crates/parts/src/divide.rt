@@ -1,6 +1,5 @@
 // Method 0 on one part: it is trimmed, swept by pivots of a kind, and its new parts are handed out.
-ghost use mathlib.Core.Path.{_≡_};
-ghost use Rattle.graph.specs.Graph.{graph};
+ghost use Rattle.graph.specs.Arrows.{SomeOf, EveryOf};
 ghost use Rattle.parts.specs.Divide.{KindAsk, KindSwept, DivideAsk, Division};
 use crate::drawn;
 use crate::share;
@@ -16,9 +15,8 @@ pub struct Divided {
 
 // The part q, whose chain begins at place h, is swept by pivots of the kind.
 fn swept(
-    sources: &[u32],
-    targets: &[u32],
     n: usize,
+    m: usize,
     w: &mut [u32],
     words: &mut [u64],
     b: usize,
@@ -28,14 +26,14 @@ fn swept(
     q: u32,
     top: usize,
 ) -> drawn::Outcome
-    requires { ⌜ KindAsk (graph n (now sources) (now targets)) b h q top (now w) (now words) ⌝ }
-    ensures { λ r. ⌜ KindSwept (graph n (now (sources .entry)) (now (targets .entry))) b q kind state top (now (w .entry)) (now (words .entry)) (now (w .exit)) (now (words .exit)) (r .state) (r .draws) (r .top) ⌝ }
+    requires { ⌜ SomeOf n m (λ g. KindAsk g b h q top (now w) (now words)) ⌝ }
+    ensures { λ r. ⌜ EveryOf n m (λ g. KindAsk g b h q top (now (w .entry)) (now (words .entry)) → KindSwept g b q kind state top (now (w .entry)) (now (words .entry)) (now (w .exit)) (now (words .exit)) (r .state) (r .draws) (r .top)) ⌝ }
 {
     if kind == 1 {
         let k = (n + 63) / 64;
-        return drawn::sweep(sources, targets, n, w, &mut words[..k], b, h, q, state, top);
+        return drawn::sweep(n, m, w, &mut words[..k], b, h, q, state, top);
     }
-    let t = sweep::sweep(sources, targets, n, w, b, h, q, top);
+    let t = sweep::sweep(n, m, w, b, h, q, top);
     drawn::Outcome {
         state: state,
         draws: 0,
@@ -45,9 +43,8 @@ fn swept(
 
 // The part whose first place is h is divided. The first places of its new parts stand from b + 8 n + 2 on.
 pub fn divide(
-    sources: &[u32],
-    targets: &[u32],
     n: usize,
+    m: usize,
     w: &mut [u32],
     words: &mut [u64],
     b: usize,
@@ -56,13 +53,13 @@ pub fn divide(
     h: usize,
     top: usize,
 ) -> Divided
-    requires { ⌜ DivideAsk (graph n (now sources) (now targets)) b h top (now w) (now words) ⌝ }
-    ensures { λ r. ⌜ Division (graph n (now (sources .entry)) (now (targets .entry))) b kind state h top (now (w .entry)) (now (words .entry)) (now (w .exit)) (now (words .exit)) (r .state) (r .draws) (r .top) (r .children) ⌝ }
+    requires { ⌜ SomeOf n m (λ g. DivideAsk g b h top (now w) (now words)) ⌝ }
+    ensures { λ r. ⌜ EveryOf n m (λ g. DivideAsk g b h top (now (w .entry)) (now (words .entry)) → Division g b kind state h top (now (w .entry)) (now (words .entry)) (now (w .exit)) (now (words .exit)) (r .state) (r .draws) (r .top) (r .children)) ⌝ }
 {
     let v = w[b + 9 * n + 2 + h] as usize;
     let q = w[b + v];
-    trim::prune::prune(sources, targets, n, w, b, h, q);
-    let s = swept(sources, targets, n, w, words, b, kind, state, h, q, top);
+    trim::prune::prune(n, m, w, b, h, q);
+    let s = swept(n, m, w, words, b, kind, state, h, q, top);
     let k = share::share(n, w, b, top, s.top, h);
     Divided {
         state: s.state,

@@ -1,6 +1,5 @@
 // A part is swept by drawn pivots. What remains of it is kept as bits, so that the vertex at a place is found by counts of ones.
-ghost use mathlib.Core.Path.{_≡_};
-ghost use Rattle.graph.specs.Graph.{graph};
+ghost use Rattle.graph.specs.Arrows.{SomeOf, EveryOf};
 ghost use Rattle.parts.specs.Drawn.{EnterAsk, Entered, MarkAsk, Marks, StrikeAsk, Struck, EraseAsk, Erased, CutAsk, Cut, DrawAsk, Drawn, RunAsk, DrawnAsk, SweptDrawn};
 use crate::split;
 
@@ -74,9 +73,8 @@ pub fn erase(n: usize, w: &[u32], words: &mut [u64], b: usize, k: usize, size: u
 
 // `split::split`, where the set loses what each search has painted. What is left of the part.
 fn cut(
-    sources: &[u32],
-    targets: &[u32],
     n: usize,
+    m: usize,
     w: &mut [u32],
     words: &mut [u64],
     b: usize,
@@ -85,13 +83,13 @@ fn cut(
     f: u32,
     left: usize,
 ) -> usize
-    requires { ⌜ CutAsk (graph n (now sources) (now targets)) b p q f (now w) (now words) left ⌝ }
-    ensures { λ k. ⌜ Cut (graph n (now (sources .entry)) (now (targets .entry))) b p q f (now (w .entry)) (now (w .exit)) (now (words .exit)) k ⌝ }
+    requires { ⌜ SomeOf n m (λ g. CutAsk g b p q f (now w) (now words) left) ⌝ }
+    ensures { λ k. ⌜ EveryOf n m (λ g. CutAsk g b p q f (now (w .entry)) (now (words .entry)) left → Cut g b p q f (now (w .entry)) (now (w .exit)) (now (words .exit)) k) ⌝ }
 {
-    let rx = n + 1 + sources.len();
-    let s = paint::search(sources, targets, n, w, 0, b, p, q, f, q, f);
+    let rx = n + 1 + m;
+    let s = paint::search(n, w, 0, b, p, q, f, q, f);
     let k = erase(n, w, words, b, s.k, left);
-    let t = paint::search(targets, sources, n, w, rx, b, p, q, f + 1, f, f + 2);
+    let t = paint::search(n, w, rx, b, p, q, f + 1, f, f + 2);
     let l = erase(n, w, words, b, t.k, k);
     split::label(n, w, b, t.k, f + 2);
     l
@@ -99,9 +97,8 @@ fn cut(
 
 // One draw: the part q is split at the vertex drawn from what is left of it.
 fn turn(
-    sources: &[u32],
-    targets: &[u32],
     n: usize,
+    m: usize,
     w: &mut [u32],
     words: &mut [u64],
     b: usize,
@@ -110,20 +107,19 @@ fn turn(
     top: usize,
     left: usize,
 ) -> Step
-    requires { ⌜ DrawAsk (graph n (now sources) (now targets)) b q top (now w) (now words) left ⌝ }
-    ensures { λ r. ⌜ Drawn (graph n (now (sources .entry)) (now (targets .entry))) b q state top (now (w .entry)) left (now (w .exit)) (now (words .exit)) (r .state) (r .left) ⌝ }
+    requires { ⌜ SomeOf n m (λ g. DrawAsk g b q top (now w) (now words) left) ⌝ }
+    ensures { λ r. ⌜ EveryOf n m (λ g. DrawAsk g b q top (now (w .entry)) (now (words .entry)) left → Drawn g b q state top (now (w .entry)) left (now (w .exit)) (now (words .exit)) (r .state) (r .left)) ⌝ }
 {
     let s = pivot::chooser::next(state);
     let p = pivot::place::select(words, n, s as usize % left);
-    let l = cut(sources, targets, n, w, words, b, p, q, top as u32, left);
+    let l = cut(n, m, w, words, b, p, q, top as u32, left);
     Step { state: s, left: l }
 }
 
 // Draws, until nothing is left of the part q.
 fn run(
-    sources: &[u32],
-    targets: &[u32],
     n: usize,
+    m: usize,
     w: &mut [u32],
     words: &mut [u64],
     b: usize,
@@ -132,15 +128,15 @@ fn run(
     top0: usize,
     size: usize,
 ) -> Outcome
-    requires { ⌜ RunAsk (graph n (now sources) (now targets)) b q top0 (now w) (now words) size ⌝ }
-    ensures { λ r. ⌜ SweptDrawn (graph n (now (sources .entry)) (now (targets .entry))) b q state0 top0 (now (w .entry)) (now (w .exit)) (now (words .exit)) (r .state) (r .draws) (r .top) ⌝ }
+    requires { ⌜ SomeOf n m (λ g. RunAsk g b q top0 (now w) (now words) size) ⌝ }
+    ensures { λ r. ⌜ EveryOf n m (λ g. RunAsk g b q top0 (now (w .entry)) (now (words .entry)) size → SweptDrawn g b q state0 top0 (now (w .entry)) (now (w .exit)) (now (words .exit)) (r .state) (r .draws) (r .top)) ⌝ }
 {
     let mut state = state0;
     let mut draws: usize = 0;
     let mut top = top0;
     let mut left = size;
     while 0 < left {
-        let t = turn(sources, targets, n, w, words, b, q, state, top, left);
+        let t = turn(n, m, w, words, b, q, state, top, left);
         state = t.state;
         left = t.left;
         top += 2;
@@ -155,9 +151,8 @@ fn run(
 
 // The part q, whose chain begins at place h, is swept by pivots of kind 1.
 pub fn sweep(
-    sources: &[u32],
-    targets: &[u32],
     n: usize,
+    m: usize,
     w: &mut [u32],
     words: &mut [u64],
     b: usize,
@@ -166,9 +161,9 @@ pub fn sweep(
     state: u32,
     top: usize,
 ) -> Outcome
-    requires { ⌜ DrawnAsk (graph n (now sources) (now targets)) b h q top (now w) (now words) ⌝ }
-    ensures { λ r. ⌜ SweptDrawn (graph n (now (sources .entry)) (now (targets .entry))) b q state top (now (w .entry)) (now (w .exit)) (now (words .exit)) (r .state) (r .draws) (r .top) ⌝ }
+    requires { ⌜ SomeOf n m (λ g. DrawnAsk g b h q top (now w) (now words)) ⌝ }
+    ensures { λ r. ⌜ EveryOf n m (λ g. DrawnAsk g b h q top (now (w .entry)) (now (words .entry)) → SweptDrawn g b q state top (now (w .entry)) (now (w .exit)) (now (words .exit)) (r .state) (r .draws) (r .top)) ⌝ }
 {
     let k = mark(n, w, words, b, h, q);
-    run(sources, targets, n, w, words, b, q, state, top, k)
+    run(n, m, w, words, b, q, state, top, k)
 }

@@ -1,5 +1,4 @@
 // The places of a part are handed out, each behind the last of its new part; the first of each new part is pending.
-ghost use mathlib.Core.Path.{_≡_};
 ghost use Rattle.parts.specs.Share.{LinkAsk, Linked, HangAsk, Hung, ShareAsk, Sharing};
 
 // Place i becomes the last of the part c. The number of pending parts then.

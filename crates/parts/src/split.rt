@@ -1,8 +1,7 @@
 // One pivot: what it reaches and what reaches it within its part; what they share is a component and gets its label.
-ghost use mathlib.Core.Path.{_≡_};
 ghost use Prim.Native.Nat.{_<_};
 ghost use lib.ListN.{length};
-ghost use Rattle.graph.specs.Graph.{graph};
+ghost use Rattle.graph.specs.Arrows.{SomeOf, EveryOf};
 ghost use Rattle.parts.specs.Split.{Lower, Lowest, Renamed, Queued, NameAsk, Named, LabelAsk, Labelled, SplitAsk, Split};
 
 // The lower of l and v, if v's colour y is d; else l.
@@ -67,21 +66,12 @@ pub fn label(n: usize, w: &mut [u32], b: usize, k: usize, d: u32)
 }
 
 // The part q is split at its vertex p: the rest of what p reaches becomes f, the rest of what reaches p f + 1.
-pub fn split(
-    sources: &[u32],
-    targets: &[u32],
-    n: usize,
-    w: &mut [u32],
-    b: usize,
-    p: usize,
-    q: u32,
-    f: u32,
-)
-    requires { ⌜ SplitAsk (graph n (now sources) (now targets)) b p q f (now w) ⌝ }
-    ensures { λ _. ⌜ Split (graph n (now (sources .entry)) (now (targets .entry))) b p q f (now (w .entry)) (now (w .exit)) ⌝ }
+pub fn split(n: usize, m: usize, w: &mut [u32], b: usize, p: usize, q: u32, f: u32)
+    requires { ⌜ SomeOf n m (λ g. SplitAsk g b p q f (now w)) ⌝ }
+    ensures { λ _. ⌜ EveryOf n m (λ g. SplitAsk g b p q f (now (w .entry)) → Split g b p q f (now (w .entry)) (now (w .exit))) ⌝ }
 {
-    let rx = n + 1 + sources.len();
-    paint::search(sources, targets, n, w, 0, b, p, q, f, q, f);
-    let s = paint::search(targets, sources, n, w, rx, b, p, q, f + 1, f, f + 2);
+    let rx = n + 1 + m;
+    paint::search(n, w, 0, b, p, q, f, q, f);
+    let s = paint::search(n, w, rx, b, p, q, f + 1, f, f + 2);
     label(n, w, b, s.k, f + 2);
 }

@@ -1,3 +1,4 @@
+pub mod Indexes
 pub mod Walks
 pub mod Answers
 pub mod Unique

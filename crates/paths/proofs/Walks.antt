@@ -3,104 +3,95 @@ use Prim.Native.Nat.{ℕ, suc, _+_, _-_, _≤_, _<_}
 use native.Mathlib.Omega.{arith}
 use native.Mathlib.Decide.{ℕ-discrete, decLt}
 use mathlib.Core.Path.{_≡_, refl, sym, ap, subst, _∙_}
-use mathlib.Core.Logic.{_⊎_, ⊎-elim}
-use mathlib.Core.Bool.{true}
+use mathlib.Core.Logic.{⊎-elim}
 use mathlib.Core.List.{List, [], _∷_, _++_, append-assoc}
 use lib.ListN.{length, getD, set, drop, length-set, length-append, length-drop, List·getD-append}
 use lib.Seq.{getD-set-same, getD-set-other, getD-drop, ext-getD}
-use Rattle.graph.specs.Graph.{Graph, Edge, Chain, all, edges, from, to}
+use Rattle.graph.specs.Graph.{Graph, Edge, Chain, all, rev, edges, from}
 use Rattle.graph.specs.Parts.{only}
 use Rattle.graph.specs.Limits.{mostVertices, mostEdges}
 use Rattle.graph.specs.Certificate.{IsDist, distOf}
 use Rattle.graph.specs.Paths.{nearer, walk}
 use Rattle.graph.proofs.Lent.{cat-high}
-use Rattle.graph.proofs.Chains.{chain-wider, valid-rev, edge-from-low}
+use Rattle.graph.proofs.Chains.{chain-wider, edge-from-low}
 use Rattle.graph.proofs.Distance.{dist-is, dist-low, dist-unique, dist-reached}
 use Rattle.graph.proofs.Nearer.{has-nearer, nearer-is}
 use Rattle.graph.proofs.Paths.{walk-length}
-use Rattle.index.specs.Index.{start}
-use Rattle.index.specs.Build.{BothAsk, Both}
+use Rattle.index.specs.Index.{first, numbered}
 use Rattle.index.proofs.Counts.{start-mono, start-all}
-use Rattle.index.proofs.Asks.{valid-both}
-use Rattle.index.proofs.Moved.{indexed-kept}
+use Rattle.index.proofs.Moved.{held-kept}
+use Rattle.index.proofs.Numbers.{number-at, number-found, number-rises}
 use Rattle.paint.specs.Colours.{col}
-use Rattle.paint.specs.Paint.{other}
 use Rattle.paint.specs.Distances.{Nearest, Measured, Has, MeasureAsk}
 use Rattle.paint.proofs.Spreading.{low-chain}
 use Rattle.regions.specs.Regions.{Filled}
-use Rattle.paths.specs.Walk.{reverse, base, FindAsk, Known, Prepared, FirstAsk, First, WalkAsk, Walked, SettleAsk}
+use Rattle.paths.specs.Walk.{reverse, base, sourceAt, FindAsk, Known, Prepared, FirstAsk, First, WalkAsk, Walked, SettleAsk}
+use Rattle.paths.proofs.Indexes.{Indexed}
 
 -- THE DISTANCES
-module _ {g : Graph} {u : ℕ} {w : List ℕ} (counts : (e : ℕ) → g .counted e ≡ true) (a : FindAsk g u w) where
-  pub both-ask : BothAsk (g .src) (g .tgt) (g .n) w
-  both-ask = valid-both (a .valid) (a .small) (a .few) (omega (arith, a .room))
+module _ {g : Graph} {u : ℕ} {w w₁ : List ℕ} (a : FindAsk g u w) (x : Indexed g w w₁) where
+  pub fill-room : base g + g .n ≤ length w₁
+  fill-room = omega (arith, a .room, x .long)
 
-  module _ {w₁ : List ℕ} (x : Both (g .src) (g .tgt) (g .n) w w₁) where
-    pub fill-room : base g + g .n ≤ length w₁
-    fill-room = omega (arith, a .room, x .long)
+  module _ {w₂ : List ℕ} (y : Filled (base g) (g .n) (g .n + 1) w₁ w₂) where
+    pub measure-ask : MeasureAsk g (g .n + 1) 0 (base g) u w₂
+    measure-ask = record {
+      laid = record {
+        valid = a .valid;
+        few = a .few;
+        below = omega arith;
+        index = held-kept g 0 w₁ w₂ (λ j h q. y .framed .low j (omega arith)) (x .forward);
+      };
+      small = a .small;
+      fits = omega (arith, a .room, x .long, y .framed .long);
+      far = omega arith;
+      start = a .start;
+    }
 
-    module _ {w₂ : List ℕ} (y : Filled (base g) (g .n) (g .n + 1) w₁ w₂) where
-      pub measure-ask : MeasureAsk g (g .n + 1) 0 (base g) u w₂
-      measure-ask = record {
-        laid = record {
-          valid = a .valid;
-          counts = counts;
-          few = a .few;
-          below = omega arith;
-          index = indexed-kept (g .src) (g .n) 0 w₁ w₂ (a .valid .from-low) (λ j h q. y .framed .low j (omega arith)) (x .forward);
-        };
+    -- within the table every chain has the one colour
+    every : {h v : ℕ} → Chain g all h u v → Chain g (Has (g .n + 1) (base g) w₂) h u v
+    every c = chain-wider {g = g} {P = λ v. (v < g .n) × all v} {Q = Has (g .n + 1) (base g) w₂} (λ v t. y .each v (t .0)) (low-chain (a .valid) (a .start) c)
+
+    pub find-all : {w₃ : List ℕ} {k : ℕ} → Measured g (base g) (Has (g .n + 1) (base g) w₂) (only u) w₂ w₃ k → Prepared g u w w₃
+    find-all {w₃} z = record {
+      long = z .kept .long ∙ y .framed .long ∙ x .long;
+      high = λ j h. z .kept .high j h ∙ y .framed .high j (omega arith) ∙ x .rest j (omega arith);
+      known = record {
+        valid = a .valid;
         small = a .small;
-        fits = omega (arith, a .room, x .long, y .framed .long);
-        far = omega arith;
+        few = a .few;
         start = a .start;
-      }
-
-      -- within the table every chain has the one colour
-      every : {h v : ℕ} → Chain g all h u v → Chain g (Has (g .n + 1) (base g) w₂) h u v
-      every c = chain-wider {g = g} {P = λ v. (v < g .n) × all v} {Q = Has (g .n + 1) (base g) w₂} (λ v t. y .each v (t .0)) (low-chain (a .valid) (a .start) c)
-
-      pub find-all : {w₃ : List ℕ} {k : ℕ} → Measured g (base g) (Has (g .n + 1) (base g) w₂) (only u) w₂ w₃ k → Prepared g u w w₃
-      find-all {w₃} z = record {
-        long = z .kept .long ∙ y .framed .long ∙ x .long;
-        high = λ j h. z .kept .high j h ∙ y .framed .high j (omega arith) ∙ x .rest j (omega arith);
-        known = record {
-          valid = a .valid;
-          counts = counts;
-          small = a .small;
-          few = a .few;
-          start = a .start;
-          room = omega (arith, a .room, x .long, y .framed .long, z .kept .long);
-          index = indexed-kept (g .tgt) (g .n) (reverse g) w₁ w₃ (valid-rev (a .valid) .from-low)
-              (λ j h q. z .kept .low j (omega (arith, a .valid .same)) ∙ y .framed .low j (omega (arith, a .valid .same))) (x .reverse);
-          near = λ v l h. let r = dist-reached (a .valid) u v (a .start) l .0 h in ⊎-elim
-              (λ t. dist-unique (is v t) (dist-is (a .valid) u v (a .start) l r))
-              (λ t. absurd (t .0 (u, refl, (r .0, every (r .1)))))
-              (z .each v l);
-          far = λ v l h. ⊎-elim
-              (λ t. absurd (omega (arith, h, dist-low (a .valid) u v (a .start) l (col (base g) w₃ v, is v t .chain))))
-              (λ t. omega (arith, t .1, y .each v l))
-              (z .each v l);
-        };
-      }
-        where
-          is : (v : ℕ) → Nearest g (Has (g .n + 1) (base g) w₂) (only u) v (col (base g) w₃ v) → IsDist g u v (col (base g) w₃ v)
-          is v t =
-              let (x, q, c) = t .chain in
-              let c' : Chain g all (col (base g) w₃ v) x v = chain-wider {g = g} {P = Has (g .n + 1) (base g) w₂} {Q = all} (λ v _. tt) c in
-              record { chain = rw q c'; shortest = λ h c. t .shortest u h refl (every c) }
+        room = omega (arith, a .room, x .long, y .framed .long, z .kept .long);
+        index = held-kept (numbered (rev g)) (reverse g) w₁ w₃ (λ j h q. z .kept .low j (omega arith) ∙ y .framed .low j (omega arith)) (x .numbers);
+        near = λ v l h. let r = dist-reached (a .valid) u v (a .start) l .0 h in ⊎-elim
+            (λ t. dist-unique (is v t) (dist-is (a .valid) u v (a .start) l r))
+            (λ t. absurd (t .0 (u, refl, (r .0, every (r .1)))))
+            (z .each v l);
+        far = λ v l h. ⊎-elim
+            (λ t. absurd (omega (arith, h, dist-low (a .valid) u v (a .start) l (col (base g) w₃ v, is v t .chain))))
+            (λ t. omega (arith, t .1, y .each v l))
+            (z .each v l);
+      };
+    }
+      where
+        is : (v : ℕ) → Nearest g (Has (g .n + 1) (base g) w₂) (only u) v (col (base g) w₃ v) → IsDist g u v (col (base g) w₃ v)
+        is v t =
+            let (x, q, c) = t .chain in
+            let c' : Chain g all (col (base g) w₃ v) x v = chain-wider {g = g} {P = Has (g .n + 1) (base g) w₂} {Q = all} (λ v _. tt) c in
+            record { chain = rw q c'; shortest = λ h c. t .shortest u h refl (every c) }
 
 -- THE FIRST EDGE THAT FITS
 -- none of the places before i fits
 pub record Passing (sources w : List ℕ) (eb b d i₀ t i : ℕ) : Type 0 where
   pub low : i₀ ≤ i
   pub high : i ≤ t
-  pub before : (j : ℕ) → i₀ ≤ j → j < i → col b w (other w eb sources j) ≡ d → ⊥
+  pub before : (j : ℕ) → i₀ ≤ j → j < i → col b w (sourceAt sources w eb j) ≡ d → ⊥
 
-pub pass-step : {sources w : List ℕ} {eb b d i₀ t i : ℕ} → i < t → (col b w (other w eb sources i) ≡ d → ⊥) → Passing sources w eb b d i₀ t i → Passing sources w eb b d i₀ t (i + 1)
+pub pass-step : {sources w : List ℕ} {eb b d i₀ t i : ℕ} → i < t → (col b w (sourceAt sources w eb i) ≡ d → ⊥) → Passing sources w eb b d i₀ t i → Passing sources w eb b d i₀ t (i + 1)
 pass-step {sources} {w} {eb} {b} {d} {i₀} {t} {i} l o z = record {
   low = omega (arith, z .low);
   high = omega arith;
-  before = λ j h q. elim (ℕ-discrete j i) as (λ _. col b w (other w eb sources j) ≡ d → ⊥) [ yes e ↦ rw e o | no e ↦ z .before j h (omega arith) ];
+  before = λ j h q. elim (ℕ-discrete j i) as (λ _. col b w (sourceAt sources w eb j) ≡ d → ⊥) [ yes e ↦ rw e o | no e ↦ z .before j h (omega arith) ];
 }
 
 -- BACK FROM V
@@ -117,10 +108,10 @@ pub record Walking (g : Graph) (u v d₀ : ℕ) (r₀ : List ℕ) (x d : ℕ) (r
 -- what a turn reads
 pub record Turn (g : Graph) (w : List ℕ) (x : ℕ) : Type 0 where
   pub vertex : x < g .n
-  pub begins : getD w (reverse g + x) 0 ≡ start (g .tgt) x
-  pub ends : getD w (reverse g + x + 1) 0 ≡ start (g .tgt) (suc x)
-  pub order : start (g .tgt) x ≤ start (g .tgt) (suc x)
-  pub last : start (g .tgt) (suc x) ≤ edges g
+  pub begins : getD w (reverse g + x) 0 ≡ first (rev g) x
+  pub ends : getD w (reverse g + x + 1) 0 ≡ first (rev g) (suc x)
+  pub order : first (rev g) x ≤ first (rev g) (suc x)
+  pub last : first (rev g) (suc x) ≤ edges g
   pub room : base g + g .n ≤ length w
   pub small : g .n ≤ mostVertices
   pub few : edges g ≤ mostEdges
@@ -150,8 +141,8 @@ module _ {g : Graph} {u v d₀ : ℕ} {w r₀ : List ℕ} (a : WalkAsk g u v d�
       vertex = z .vertex;
       begins = k .index .offs x (omega (arith, z .vertex));
       ends = ap (λ (j : ℕ). getD w j 0) (omega arith) ∙ k .index .offs (suc x) (z .vertex);
-      order = start-mono (g .tgt) x (suc x) (omega arith);
-      last = omega (arith, start-mono (g .tgt) (suc x) (g .n) (z .vertex), start-all (g .tgt) (g .n) (valid-rev (k .valid) .from-low), k .valid .same);
+      order = start-mono (g .counted) (g .tgt) (edges g) x (suc x) (omega arith);
+      last = start-all (g .counted) (g .tgt) (edges g) (suc x);
       room = k .room;
       small = k .small;
       few = k .few;
@@ -161,16 +152,14 @@ module _ {g : Graph} {u v d₀ : ℕ} {w r₀ : List ℕ} (a : WalkAsk g u v d�
     eb = reverse g + g .n + 1
 
     -- the edge at a place of x
-    placed : (j : ℕ) → start (g .tgt) x ≤ j → j < start (g .tgt) (suc x) → Edge g (getD w (eb + j) 0) (other w eb (g .src) j) x
-    placed j l t =
-        let y = k .index .ended x j (z .vertex) (omega (arith, turn .begins)) (omega (arith, k .index .offs (suc x) (z .vertex))) in
-        record { low = omega (arith, y .0, k .valid .same); counts = rw (k .counts (getD w (eb + j) 0)) tt; leaves = refl; enters = y .1 }
+    placed : (j : ℕ) → first (rev g) x ≤ j → j < first (rev g) (suc x) → Edge g (getD w (eb + j) 0) (sourceAt (g .src) w eb j) x
+    placed j l t = let (y, q, _) = number-at (rev g) (k .index) x j l t in record { low = y .0; counts = y .1; leaves = refl; enters = q }
 
-    own-ask : FirstAsk (g .src) w eb (base g) (start (g .tgt) x) (start (g .tgt) (suc x))
+    own-ask : FirstAsk (g .src) w eb (base g) (first (rev g) x) (first (rev g) (suc x))
     own-ask = record {
       order = turn .order;
       fits = omega (arith, turn .last, k .room);
-      edges = λ j l t. placed j l t .low;
+      edges = λ j l t. omega (arith, placed j l t .low, k .valid .long);
       ends = λ j l t. omega (arith, edge-from-low (k .valid) (placed j l t), k .room);
     }
 
@@ -191,52 +180,45 @@ module _ {g : Graph} {u v d₀ : ℕ} {w r₀ : List ℕ} (a : WalkAsk g u v d�
     dist-col y l q = k .near y l (omega (arith, q, low-d)) ∙ q
 
     -- the place of an edge that enters x
-    place-of : (e y : ℕ) → Edge g e y x → (j : ℕ) × (start (g .tgt) x ≤ j) × (j < start (g .tgt) (suc x)) × (getD w (eb + j) 0 ≡ e)
-    place-of e y t =
-        let s = k .index .all e (omega (arith, t .low, k .valid .same)) in
-        let q : to g e ≡ x = t .enters in (
-          s .0,
-          omega (arith, s .1, k .index .offs (to g e) (omega (arith, q, z .vertex)), ap (start (g .tgt)) q),
-          omega (arith, s .2, k .index .offs (suc (to g e)) (omega (arith, q, z .vertex)), ap (λ (y : ℕ). start (g .tgt) (suc y)) q),
-          s .3,
-        )
+    place-of : (e y : ℕ) → Edge g e y x → (j : ℕ) × (first (rev g) x ≤ j) × (j < first (rev g) (suc x)) × (getD w (eb + j) 0 ≡ e)
+    place-of e y t = rw (t .enters) at (number-found (rev g) (k .index) e (t .low, t .counts))
 
-    module _ {i : ℕ} (f : First (g .src) w (reverse g + g .n + 1) (base g) d (start (g .tgt) x) (start (g .tgt) (suc x)) i) where
+    module _ {i : ℕ} (f : First (g .src) w (reverse g + g .n + 1) (base g) d (first (rev g) x) (first (rev g) (suc x)) i) where
       -- an edge that fits does not stand before place i
-      not-before : (e y : ℕ) → Edge g e y x → distOf g u y ≡ d → (j : ℕ) × (i ≤ j) × (j < start (g .tgt) (suc x)) × (getD w (eb + j) 0 ≡ e)
+      not-before : (e y : ℕ) → Edge g e y x → distOf g u y ≡ d → (j : ℕ) × (i ≤ j) × (j < first (rev g) (suc x)) × (getD w (eb + j) 0 ≡ e)
       not-before e y t q =
           let (j, l, h, p) = place-of e y t in
-          elim (decLt j i) as (λ _. (j : ℕ) × (i ≤ j) × (j < start (g .tgt) (suc x)) × (getD w (eb + j) 0 ≡ e)) [
+          elim (decLt j i) as (λ _. (j : ℕ) × (i ≤ j) × (j < first (rev g) (suc x)) × (getD w (eb + j) 0 ≡ e)) [
             | yes b ↦
-                let s : other w eb (g .src) j ≡ y = ap (λ (e : ℕ). getD (g .src) e 0) p ∙ t .leaves in
+                let s : sourceAt (g .src) w eb j ≡ y = ap (λ (e : ℕ). getD (g .src) e 0) p ∙ t .leaves in
                 absurd (f .before j l b (ap (col (base g) w) s ∙ dist-col y (edge-from-low (k .valid) t) q))
             | no b ↦ (j, omega arith, h, p)
           ]
 
-      found : i < start (g .tgt) (suc x)
+      found : i < first (rev g) (suc x)
       found =
           let (e, y, t, q) = has-nearer (k .valid) u (k .start) d x (z .vertex) (z .is) (omega (arith, z .most, a .low)) in
           let (j, l, h, p) = not-before e y t q in
           omega arith
 
-      own : Edge g (getD w (eb + i) 0) (other w eb (g .src) i) x
+      own : Edge g (getD w (eb + i) 0) (sourceAt (g .src) w eb i) x
       own = placed i (f .low) found
 
       is-nearer : getD w (eb + i) 0 ≡ nearer g u d x
-      is-nearer = nearer-is (k .valid) u (k .start) d x (getD w (eb + i) 0) (other w eb (g .src) i) own
-          (col-dist (other w eb (g .src) i) (edge-from-low (k .valid) own) (f .here found))
+      is-nearer = nearer-is (k .valid) u (k .start) d x (getD w (eb + i) 0) (sourceAt (g .src) w eb i) own
+          (col-dist (sourceAt (g .src) w eb i) (edge-from-low (k .valid) own) (f .here found))
           (λ e y l t q.
           let (j, b, h, p) = not-before e y t q in
           elim (ℕ-discrete i j) as (λ _. ⊥) [
             | yes s ↦ omega (arith, p, ap (λ (j : ℕ). getD w (eb + j) 0) s)
-            | no s ↦ omega (arith, p, k .index .rising x i j (z .vertex) (omega (arith, turn .begins, f .low)) (omega arith) (omega (arith, k .index .offs (suc x) (z .vertex))))
+            | no s ↦ omega (arith, p, number-rises (rev g) (k .index) x i j (f .low) (omega arith) h)
           ])
 
-      own-step : Walking g u v d₀ r₀ (other w eb (g .src) i) d (set r d (getD w (eb + i) 0))
+      own-step : Walking g u v d₀ r₀ (sourceAt (g .src) w eb i) d (set r d (getD w (eb + i) 0))
       unfolding walk
       own-step =
           let e = getD w (eb + i) 0 in
-          let y = other w eb (g .src) i in
+          let y = sourceAt (g .src) w eb i in
           let one : walk g u (suc d) x ≡ walk g u d y ++ (e ∷ []) = ap (λ (e : ℕ). walk g u d (from g e) ++ (e ∷ [])) (sym is-nearer) in
           let all-of : walk g u d₀ v ≡ walk g u d y ++ (e ∷ z .rest .0) =
           z .rest .1 ∙ ap (λ (l : List ℕ). l ++ z .rest .0) one ∙ append-assoc (walk g u d y) (e ∷ []) (z .rest .0) in
@@ -259,7 +241,7 @@ module _ {g : Graph} {u v d₀ : ℕ} {w r₀ : List ℕ} (a : WalkAsk g u v d�
           }
 
     module _ {i : ℕ} (f : First (g .src) w (reverse g + g .n + 1) (base g) d (getD w (reverse g + x) 0) (getD w (reverse g + x + 1) 0) i) where
-      same-first : First (g .src) w (reverse g + g .n + 1) (base g) d (start (g .tgt) x) (start (g .tgt) (suc x)) i
+      same-first : First (g .src) w (reverse g + g .n + 1) (base g) d (first (rev g) x) (first (rev g) (suc x)) i
       same-first = rw (turn .begins, turn .ends) at f
 
       -- the edge stands in the index, and comes from a vertex
@@ -269,10 +251,10 @@ module _ {g : Graph} {u v d₀ : ℕ} {w r₀ : List ℕ} (a : WalkAsk g u v d�
       pub edge-low : getD w (reverse g + g .n + 1 + i) 0 < edges g
       edge-low = own same-first .low
 
-      pub source-low : other w (reverse g + g .n + 1) (g .src) i < g .n
+      pub source-low : sourceAt (g .src) w (reverse g + g .n + 1) i < g .n
       source-low = edge-from-low (k .valid) (own same-first)
 
-      pub walk-step : Walking g u v d₀ r₀ (other w (reverse g + g .n + 1) (g .src) i) d (set r d (getD w (reverse g + g .n + 1 + i) 0))
+      pub walk-step : Walking g u v d₀ r₀ (sourceAt (g .src) w (reverse g + g .n + 1) i) d (set r d (getD w (reverse g + g .n + 1 + i) 0))
       walk-step = own-step same-first
 
   pub walk-all : {x : ℕ} {r : List ℕ} → Walking g u v d₀ r₀ x 0 r → Walked g u v d₀ r₀ r
@@ -317,10 +299,10 @@ module _ {g : Graph} {u v d₀ : ℕ} {w r₀ : List ℕ} (a : WalkAsk g u v d�
     pub back-edge : getD w (reverse g + g .n + 1 + i) 0 < edges g
     back-edge = edge-low a down f
 
-    pub back-source : other w (reverse g + g .n + 1) (g .src) i < g .n
+    pub back-source : sourceAt (g .src) w (reverse g + g .n + 1) i < g .n
     back-source = source-low a down f
 
-    pub back-step : Walking g u v d₀ r₀ (other w (reverse g + g .n + 1) (g .src) i) (d - 1) (set r (d - 1) (getD w (reverse g + g .n + 1 + i) 0))
+    pub back-step : Walking g u v d₀ r₀ (sourceAt (g .src) w (reverse g + g .n + 1) i) (d - 1) (set r (d - 1) (getD w (reverse g + g .n + 1 + i) 0))
     back-step = walk-step a down f
 
 pub walked-long : {g : Graph} {u v d : ℕ} {w room : List ℕ} → WalkAsk g u v d w room → (room' : List ℕ) → Walked g u v d room room' → length room' ≡ length room

@@ -1,21 +1,31 @@
 -- Distances as colours, and the walk back along them.
 use Prim.Native.Nat.{ℕ, _+_, _*_, _≤_, _<_}
 use mathlib.Core.Path.{_≡_}
-use mathlib.Core.Bool.{true}
 use mathlib.Core.List.{List, _++_}
 use mathlib.Core.Logic.{_⊎_}
 use lib.ListN.{length, getD, drop}
-use Rattle.graph.specs.Graph.{Graph, Valid, edges}
+use Rattle.graph.specs.Graph.{Graph, Valid, rev, edges}
+use Rattle.graph.specs.Arrows.{Arrows, on}
 use Rattle.graph.specs.Limits.{mostVertices, mostEdges, noPath, roomShort}
 use Rattle.graph.specs.Certificate.{distOf}
 use Rattle.graph.specs.Paths.{walk}
-use Rattle.index.specs.Index.{Indexed}
+use Rattle.index.specs.Index.{Held, numbered}
 use Rattle.paint.specs.Colours.{col}
-use Rattle.paint.specs.Paint.{other}
 use Rattle.paths.specs.declared.Answer.{Answer}
 use Rattle.paths.specs.declared.Answer.the-variants.{Done, Refused}
 
--- where the reverse index stands, and where the colours
+-- a table whose sources are s
+abbrev pub sourced : List ℕ → Arrows → Arrows
+sourced s a = record { m = length s; src = s; tgt = a .tgt; counted = a .counted }
+
+-- P holds of some table of n vertices with the sources s and some start, and of all such
+abbrev pub SomeFrom : ℕ → List ℕ → (Graph → ℕ → Type 0) → Type 0
+SomeFrom n s P = (a : Arrows) × (u : ℕ) × P (on n (sourced s a)) u
+
+abbrev pub EveryFrom : ℕ → List ℕ → (Graph → ℕ → Type 0) → Type 0
+EveryFrom n s P = (a : Arrows) (u : ℕ) → P (on n (sourced s a)) u
+
+-- where the numbers of the edges that enter each vertex stand, and where the colours
 abbrev pub reverse : Graph → ℕ
 reverse g = g .n + 1 + edges g
 
@@ -29,15 +39,14 @@ pub record FindAsk (g : Graph) (u : ℕ) (w : List ℕ) : Type 0 where
   pub start : u < g .n
   pub room : base g + g .n + g .n ≤ length w
 
--- w holds the reverse index, and as its colour each vertex's distance from u; n + 1 if it is not reached
+-- w holds by each vertex the numbers of the edges that enter it, and as its colour its distance from u; n + 1 if it is not reached
 pub record Known (g : Graph) (u : ℕ) (w : List ℕ) : Type 0 where
   pub valid : Valid g
-  pub counts : (e : ℕ) → g .counted e ≡ true
   pub small : g .n ≤ mostVertices
   pub few : edges g ≤ mostEdges
   pub start : u < g .n
   pub room : base g + g .n ≤ length w
-  pub index : Indexed (g .tgt) (g .n) (reverse g) w
+  pub index : Held (numbered (rev g)) (reverse g) w
   pub near : (x : ℕ) → x < g .n → distOf g u x < g .n → col (base g) w x ≡ distOf g u x
   pub far : (x : ℕ) → x < g .n → g .n ≤ distOf g u x → g .n < col (base g) w x
 
@@ -46,19 +55,23 @@ pub record Prepared (g : Graph) (u : ℕ) (w w' : List ℕ) : Type 0 where
   pub high : (j : ℕ) → base g + g .n + g .n ≤ j → getD w' j 0 ≡ getD w j 0
   pub known : Known g u w'
 
+-- the source of the edge whose number stands at place j; the numbers stand in w from eb on
+abbrev pub sourceAt : List ℕ → List ℕ → ℕ → ℕ → ℕ
+sourceAt sources w eb j = getD sources (getD w (eb + j) 0) 0
+
 -- the edge numbers at the places i .. t - 1 stand in w from eb on, the colours from b on
 pub record FirstAsk (sources w : List ℕ) (eb b i t : ℕ) : Type 0 where
   pub order : i ≤ t
   pub fits : eb + t ≤ length w
   pub edges : (j : ℕ) → i ≤ j → j < t → getD w (eb + j) 0 < length sources
-  pub ends : (j : ℕ) → i ≤ j → j < t → b + other w eb sources j < length w
+  pub ends : (j : ℕ) → i ≤ j → j < t → b + sourceAt sources w eb j < length w
 
 -- r is the first place from i on whose edge comes from a vertex of the colour d, and t if there is none
 pub record First (sources w : List ℕ) (eb b d i t r : ℕ) : Type 0 where
   pub low : i ≤ r
   pub high : r ≤ t
-  pub before : (j : ℕ) → i ≤ j → j < r → col b w (other w eb sources j) ≡ d → ⊥
-  pub here : r < t → col b w (other w eb sources r) ≡ d
+  pub before : (j : ℕ) → i ≤ j → j < r → col b w (sourceAt sources w eb j) ≡ d → ⊥
+  pub here : r < t → col b w (sourceAt sources w eb r) ≡ d
 
 pub record WalkAsk (g : Graph) (u v d : ℕ) (w room : List ℕ) : Type 0 where
   pub known : Known g u w

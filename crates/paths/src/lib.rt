@@ -1,7 +1,6 @@
 // The shortest path from u to v, as edge numbers in walking order.
 ghost use mathlib.Core.Path.{_≡_};
-ghost use lib.ListN.{length};
-ghost use Rattle.paths.specs.Promise.{Call, askRefusal, Promise};
+ghost use Rattle.paths.specs.Promise.{askRefusal, Promise};
 use graph::limits;
 use graph::table;
 use index::memory;
@@ -59,7 +58,7 @@ pub fn path(
         return Answer::Refused(no);
     }
     walk::find(n, sources, targets, u, numbers);
-    let answer = walk::settle(n, sources, targets, u, v, numbers, room);
+    let answer = walk::settle(n, sources, v, numbers, room);
     memory::clear(n, sources.len(), numbers, words);
     answer
 }

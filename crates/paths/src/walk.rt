@@ -1,21 +1,23 @@
 // Distances from u by levels, and the walk back from v along them.
 ghost use Rattle.graph.specs.Graph.{graph};
-ghost use Rattle.paths.specs.Walk.{FindAsk, Prepared, FirstAsk, First, WalkAsk, Walked, SettleAsk, Settled};
+ghost use Rattle.paths.specs.Walk.{SomeFrom, EveryFrom, FindAsk, Prepared, FirstAsk, First, WalkAsk, Walked, SettleAsk, Settled};
 use crate::Answer;
 use graph::limits;
 use index::build;
 use paint::distances;
 
-// Both indexes, and behind them as colours the distances from u: n + 1 is no distance.
+// The neighbours, behind them the edge numbers by target, and behind both as colours the distances from u: n + 1 is no distance.
 pub fn find(n: usize, sources: &[u32], targets: &[u32], u: usize, w: &mut [u32])
     requires { ⌜ FindAsk (graph n (now sources) (now targets)) u (now w) ⌝ }
     ensures { λ _. ⌜ Prepared (graph n (now (sources .entry)) (now (targets .entry))) u (now (w .entry)) (now (w .exit)) ⌝ }
 {
-    build::both(sources, targets, n, w);
-    let b = 2 * (n + 1 + sources.len());
+    build::one(sources, targets, n, w);
+    let k = n + 1 + sources.len();
+    let b = 2 * k;
+    build::numbers(targets, n, &mut w[k..b]);
     let far = (n + 1) as u32;
     regions::fill(w, b, n, far);
-    distances::measure(sources, targets, n, w, 0, b, u, far);
+    distances::measure(n, w, 0, b, u, far);
 }
 
 // The first of the places i0 .. t - 1 whose edge comes from a vertex of the colour d, or t.
@@ -36,19 +38,10 @@ fn first(sources: &[u32], w: &[u32], eb: usize, b: usize, i0: usize, t: usize, d
     i
 }
 
-// Back from v, each time by the smallest edge from one step nearer; the reverse index has a vertex's edges in rising order.
-fn back(
-    n: usize,
-    sources: &[u32],
-    targets: &[u32],
-    u: usize,
-    v: usize,
-    w: &[u32],
-    d0: usize,
-    room: &mut [u32],
-)
-    requires { ⌜ WalkAsk (graph n (now sources) (now targets)) u v d0 (now w) (now room) ⌝ }
-    ensures { λ _. ⌜ Walked (graph n (now (sources .entry)) (now (targets .entry))) u v d0 (now (room .entry)) (now (room .exit)) ⌝ }
+// Back from v, each time by the smallest edge from one step nearer; the numbers of a vertex's edges stand in rising order.
+fn back(n: usize, sources: &[u32], v: usize, w: &[u32], d0: usize, room: &mut [u32])
+    requires { ⌜ SomeFrom n (now sources) (λ g u. WalkAsk g u v d0 (now w) (now room)) ⌝ }
+    ensures { λ _. ⌜ EveryFrom n (now (sources .entry)) (λ g u. WalkAsk g u v d0 (now (w .entry)) (now (room .entry)) → Walked g u v d0 (now (room .entry)) (now (room .exit))) ⌝ }
 {
     let rx = n + 1 + sources.len();
     let eb = rx + n + 1;
@@ -66,17 +59,9 @@ fn back(
 }
 
 // The answer from the distances: 11, 12, or the path.
-pub fn settle(
-    n: usize,
-    sources: &[u32],
-    targets: &[u32],
-    u: usize,
-    v: usize,
-    w: &[u32],
-    room: &mut [u32],
-) -> Answer
-    requires { ⌜ SettleAsk (graph n (now sources) (now targets)) u v (now w) ⌝ }
-    ensures { λ a. ⌜ Settled (graph n (now (sources .entry)) (now (targets .entry))) u v (now (room .entry)) (now (room .exit)) a ⌝ }
+pub fn settle(n: usize, sources: &[u32], v: usize, w: &[u32], room: &mut [u32]) -> Answer
+    requires { ⌜ SomeFrom n (now sources) (λ g u. SettleAsk g u v (now w)) ⌝ }
+    ensures { λ a. ⌜ EveryFrom n (now (sources .entry)) (λ g u. SettleAsk g u v (now (w .entry)) → Settled g u v (now (room .entry)) (now (room .exit)) a) ⌝ }
 {
     let d = w[2 * (n + 1 + sources.len()) + v] as usize;
     if n <= d {
@@ -85,6 +70,6 @@ pub fn settle(
     if room.len() < d {
         return Answer::Refused(limits::ROOM_SHORT);
     }
-    back(n, sources, targets, u, v, w, d, room);
+    back(n, sources, v, w, d, room);
     Answer::Done { length: d }
 }

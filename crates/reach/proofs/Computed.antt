@@ -15,7 +15,7 @@ use Rattle.graph.proofs.Search.{reached-iff}
 use Rattle.reach.specs.Search.{Call, tableOf, Finished, Promise}
 use Rattle.reach.specs.declared.Answer.the-variants.{Done}
 use Rattle.reach.proofs.Result.{members-in, members-out}
-use Rattle.reach.proofs.Outcome.{run-ask}
+use Rattle.reach.proofs.Outcome.{table-ask}
 
 -- what is reached does not depend on how the sets are given
 fwd-wider : {g : Graph} {P Q X Y : Part} → ((v : ℕ) → P v → Q v) → ((v : ℕ) → X v → Y v) → (v : ℕ) → Fwd g P X v → Fwd g Q Y v
@@ -32,5 +32,5 @@ module _ (c : Call) (r w ws : List ℕ) (k e : ℕ) where
 
   pub search-computed : (b : Bool) → Promise c b r w ws (Done k e) → (v : ℕ) → v < c .n
       → (bit r v ≡ 1) ↔ T (mark (reached (tableOf c b) (members (c .n) (c .permitted)) (members (c .n) (c .starts))) v)
-  search-computed true p v l = computed true (valid-rev (run-ask c (sym (p .refusal)) .valid)) (p .gives) v l
-  search-computed false p v l = computed false (run-ask c (sym (p .refusal)) .valid) (p .gives) v l
+  search-computed true p v l = computed true (valid-rev (table-ask c (sym (p .refusal)) .valid)) (p .gives) v l
+  search-computed false p v l = computed false (table-ask c (sym (p .refusal)) .valid) (p .gives) v l

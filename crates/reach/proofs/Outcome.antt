@@ -2,21 +2,23 @@
 use Prim.Native.Nat.{ℕ, _≤_, _+_, _*_}
 use native.Mathlib.Omega.{arith}
 use native.Mathlib.Nat.{suc-ne-zero}
-use mathlib.Core.Path.{_≡_, refl, sym, _∙_}
+use mathlib.Core.Path.{_≡_, _∙_}
 use mathlib.Core.Bool.{Bool, true, false}
 use mathlib.Core.List.{List}
 use lib.ListN.{length}
 use Rattle.graph.specs.Limits.{wordsOf, numbersNeeded, Enough}
 use Rattle.graph.specs.Numbers.{tally, many}
-use Rattle.graph.specs.Graph.{graph, edges}
+use Rattle.graph.specs.Graph.{graph}
+use Rattle.graph.specs.Arrows.{SomeOf, EveryOf, arrows}
 use Rattle.graph.specs.Sets.{bit, members}
 use Rattle.graph.specs.Memory.{Zeroed, Framed, ClearAsk, Cleared}
 use Rattle.graph.proofs.Memory.{zeroed-after}
 use Rattle.graph.proofs.Refusals.{or-none, or-left-none, given-none, not-lacking, Passed, table-passed, passed-valid}
-use Rattle.graph.proofs.Chains.{valid-rev}
+use Rattle.index.specs.Build.{One}
 use Rattle.sets.proofs.Sizes.{sized, size-below, size-many}
 use Rattle.reach.specs.Search.{Call, searchRefusal, tableOf, Finished}
-use Rattle.reach.specs.Steps.{RunAsk, Found}
+use Rattle.reach.specs.Steps.{ChooseAsk, TableAsk, RunAsk, Found}
+use Rattle.reach.proofs.Direction.{turned-ask, laid-ask, laid-framed}
 
 -- what a call has that is not refused
 pub record Accepted (c : Call) : Type 0 where
@@ -42,14 +44,31 @@ module _ (c : Call) (e : searchRefusal c ≡ 0) where
         memory = not-lacking (c .n) (length (c .sources)) (length (c .numbers)) (length (c .words)) (given-none 6 _ (suc-ne-zero 5) e3);
       }
 
-  pub run-ask : RunAsk (graph (c .n) (c .sources) (c .targets)) (c .starts) (c .permitted) (c .numbers) (c .reached)
-  run-ask = let a = accepted in record {
+  pub table-ask : TableAsk (graph (c .n) (c .sources) (c .targets)) (c .numbers)
+  table-ask = let a = accepted in record {
     valid = passed-valid (c .n) (c .sources) (c .targets) (a .table);
     small = a .table .small;
     few = a .table .few;
     room = omega (arith, a .memory .numbers);
-    sets = record { starts-long = a .starts; permitted-long = a .permitted; set-long = a .reached };
   }
+
+  sets-ask : ChooseAsk (c .n) (c .starts) (c .permitted) (c .reached)
+  sets-ask = let a = accepted in record { starts-long = a .starts; permitted-long = a .permitted; set-long = a .reached }
+
+  -- along the index in the direction of the search
+  directed-ask : (backward : Bool) {w : List ℕ} → One (tableOf c backward) (c .numbers) w → RunAsk (tableOf c backward) (c .starts) (c .permitted) w (c .reached)
+  directed-ask true o = laid-ask o (turned-ask table-ask) sets-ask
+  directed-ask false o = laid-ask o table-ask sets-ask
+
+  pub run-ask : (backward : Bool) {w : List ℕ} → One (tableOf c backward) (c .numbers) w → SomeOf (c .n) (length (c .sources)) (λ g. RunAsk g (c .starts) (c .permitted) w (c .reached))
+  run-ask true o = (arrows (tableOf c true), directed-ask true o)
+  run-ask false o = (arrows (tableOf c false), directed-ask false o)
+
+  pub run-found : (backward : Bool) {w w' r : List ℕ} {seen : ℕ} → One (tableOf c backward) (c .numbers) w
+      → EveryOf (c .n) (length (c .sources)) (λ g. RunAsk g (c .starts) (c .permitted) w (c .reached) → Found g (c .starts) (c .permitted) w (c .reached) w' r seen)
+      → Found (tableOf c backward) (c .starts) (c .permitted) w (c .reached) w' r seen
+  run-found true o h = h (arrows (tableOf c true)) (directed-ask true o)
+  run-found false o h = h (arrows (tableOf c false)) (directed-ask false o)
 
   pub clear-ask : (w : List ℕ) → length w ≡ length (c .numbers) → ClearAsk (c .n) (length (c .sources)) w (c .words)
   clear-ask w q = let a = accepted in record {
@@ -57,43 +76,33 @@ module _ (c : Call) (e : searchRefusal c ≡ 0) where
     enough = record { numbers = omega (arith, a .memory .numbers); words = a .memory .words };
   }
 
--- backward, the columns change places
-pub turned-ask : {n : ℕ} {sources targets starts permitted w r : List ℕ} → RunAsk (graph n sources targets) starts permitted w r → RunAsk (graph n targets sources) starts permitted w r
-turned-ask a = record {
-  valid = valid-rev (a .valid);
-  small = a .small;
-  few = omega (arith, a .few, a .valid .same);
-  room = omega (arith, a .room, a .valid .same);
-  sets = a .sets;
-}
-
-module _ (c : Call) (e : searchRefusal c ≡ 0) (w₁ r w ws : List ℕ) (k seen : ℕ) where
+module _ (c : Call) (e : searchRefusal c ≡ 0) (w₁ w₂ r w ws : List ℕ) (k seen : ℕ) where
   vertices : length r ≡ length (c .reached) → ((v : ℕ) → c .n ≤ v → bit r v ≡ 0) → k ≡ tally (bit r) (length r * 64) → k ≡ many (members (c .n) r) (c .n)
   vertices l z q = q ∙ size-below r (c .n) (length r * 64) (omega (arith, accepted c e .reached)) z ∙ size-many r (c .n)
 
-  zeroed : (m : ℕ) → m ≡ length (c .sources) → Framed 0 (3 * c .n + 1 + m) (c .numbers) w₁ → Zeroed (numbersNeeded (c .n) (length (c .sources))) w₁ w → Zeroed (numbersNeeded (c .n) (length (c .sources))) (c .numbers) w
-  zeroed m q f z = zeroed-after (f .long) (λ j l. f .high j (omega arith)) z
+  zeroed : Framed 0 (3 * c .n + 1 + length (c .sources)) (c .numbers) w₂ → Zeroed (numbersNeeded (c .n) (length (c .sources))) w₂ w → Zeroed (numbersNeeded (c .n) (length (c .sources))) (c .numbers) w
+  zeroed f z = zeroed-after (f .long) (λ j l. f .high j (omega arith)) z
 
-  -- the search found the set, the set was measured, and the working memory cleared
-  pub finished : (backward : Bool) → Found (tableOf c backward) (c .starts) (c .permitted) (c .numbers) (c .reached) w₁ r seen → k ≡ tally (bit r) (length r * 64)
-      → Cleared (c .n) (length (c .sources)) w₁ w (c .words) ws → Finished c backward r w ws k seen
-  finished true f q x = record {
+  -- the index was made, the search found the set, the set was measured, and the working memory cleared
+  pub finished : (backward : Bool) → One (tableOf c backward) (c .numbers) w₁ → Found (tableOf c backward) (c .starts) (c .permitted) w₁ (c .reached) w₂ r seen → k ≡ tally (bit r) (length r * 64)
+      → Cleared (c .n) (length (c .sources)) w₂ w (c .words) ws → Finished c backward r w ws k seen
+  finished true o f q x = record {
     long = f .long;
     sound = f .sound;
     complete = f .complete;
     above = f .above;
     vertices = vertices (f .long) (f .above) q;
     edges = f .count;
-    numbers = zeroed (length (c .targets)) (sym (accepted c e .table .even)) (f .frame) (x .numbers-zero);
+    numbers = zeroed (laid-framed o (f .frame)) (x .numbers-zero);
     words = x .words-zero;
   }
-  finished false f q x = record {
+  finished false o f q x = record {
     long = f .long;
     sound = f .sound;
     complete = f .complete;
     above = f .above;
     vertices = vertices (f .long) (f .above) q;
     edges = f .count;
-    numbers = zeroed (length (c .sources)) refl (f .frame) (x .numbers-zero);
+    numbers = zeroed (laid-framed o (f .frame)) (x .numbers-zero);
     words = x .words-zero;
   }

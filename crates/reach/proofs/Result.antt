@@ -2,24 +2,21 @@
 use Prim.Native.Nat.{ℕ, _≤_, _<_, _+_}
 use native.Mathlib.Omega.{arith}
 use native.Mathlib.Decide.{ℕ-discrete, decLt}
-use mathlib.Core.Path.{_≡_, refl, sym, ap, subst, _∙_}
+use mathlib.Core.Path.{_≡_, sym, ap, subst, _∙_}
 use mathlib.Core.Bool.{Bool, not, _&&_}
 use mathlib.Core.Logic.{⊎-elim}
 use mathlib.Core.List.{List}
-use lib.ListN.{length}
 use lib.Dec.{T, eqb, ltb, eqb→eq, ltb→lt, T-not, not-T}
 use borrow.Author.Tests.{lt-ltb}
 use Rattle.graph.specs.Numbers.{many}
-use Rattle.graph.specs.Graph.{Graph, graph, Part, Valid, Chain, stay, step, edges, from}
+use Rattle.graph.specs.Graph.{Graph, Part, Valid, Chain, stay, step, edges, from}
 use Rattle.graph.specs.Parts.{Fwd}
 use Rattle.graph.specs.Search.{looked}
 use Rattle.graph.specs.Sets.{bit, Members, members}
 use Rattle.graph.proofs.Tests.{and-split, and-make, eq-T}
 use Rattle.graph.proofs.Counts.{many-mono}
 use Rattle.graph.proofs.Chains.{chain-first, chain-last, chain-wider, edge-to-low}
-use Rattle.index.specs.Build.{OneAsk, One}
-use Rattle.index.proofs.Asks.{valid-column}
-use Rattle.index.proofs.Moved.{indexed-kept}
+use Rattle.index.proofs.Moved.{held-kept}
 use Rattle.paint.specs.Colours.{col, Opens, opens, Shut, Hit, painted}
 use Rattle.paint.specs.Paint.{LevelAsk, Spread, Begun, SearchAsk, Searched}
 use Rattle.paint.proofs.Painting.{paint-first, paint-opens, opens-T, T-opens}
@@ -47,150 +44,145 @@ members-in n r v l e = rw (lt-ltb v n l) (eq-T (bit r v) 1 e)
 pub members-out : (n : ℕ) (r : List ℕ) (v : ℕ) → T (members n r v) → (v < n) × (bit r v ≡ 1)
 members-out n r v t = let s = and-split (ltb v n) (eqb (bit r v) 1) t in (ltb→lt v n (s .0), eqb→eq (bit r v) 1 (s .1))
 
-module _ (n : ℕ) (src tgt starts permitted w₀ r₀ : List ℕ) (a : RunAsk (graph n src tgt) starts permitted w₀ r₀) where
-  abbrev g : Graph
-  g = graph n src tgt
+module _ (g : Graph) (starts permitted w₀ r₀ : List ℕ) (a : RunAsk g starts permitted w₀ r₀) where
+  abbrev n : ℕ
+  n = g .n
 
   abbrev b : ℕ
-  b = n + 1 + length src
+  b = n + 1 + edges g
 
-  pub one-ask : OneAsk src n w₀
-  one-ask = record { column = valid-column (a .valid) (a .small) (a .few); room = omega (arith, a .room) }
+  pub colour-ask : ColourAsk n b permitted w₀
+  colour-ask = record { small = a .table .small; room = omega (arith, a .table .room); words = a .sets .permitted-long }
 
-  module _ (w₁ : List ℕ) (o : One src n w₀ w₁) where
-    pub colour-ask : ColourAsk n b permitted w₁
-    colour-ask = record { small = a .small; room = omega (arith, a .room, o .long); words = a .sets .permitted-long }
+  module _ (w₁ r₁ : List ℕ) (c : Coloured n b permitted w₀ w₁) (h : Chosen n starts permitted r₀ r₁) where
+    pub begin-ask : BeginAsk n b r₁ w₁
+    begin-ask = record { small = a .table .small; fits = omega (arith, a .table .room, c .frame .long); words = h .long ∙ a .sets .set-long }
 
-    module _ (w₂ r₁ : List ℕ) (c : Coloured n b permitted w₁ w₂) (h : Chosen n starts permitted r₀ r₁) where
-      pub begin-ask : BeginAsk n b r₁ w₂
-      begin-ask = record { small = a .small; fits = omega (arith, a .room, o .long, c .frame .long); words = h .long ∙ a .sets .set-long }
+    search-ask : SearchAsk g reaching 0 b w₁
+    search-ask = record {
+      laid = record {
+        valid = a .table .valid;
+        few = a .table .few;
+        below = omega arith;
+        index = held-kept g 0 w₀ w₁ (λ j _ q. c .frame .low j (omega arith)) (a .index);
+      };
+      small = a .table .small;
+      fits = begin-ask .fits;
+      still = reaching-still;
+    }
 
-      search-ask : SearchAsk g reaching 0 b w₂
-      search-ask = record {
-        laid = record {
-          valid = a .valid;
-          counts = λ e. refl;
-          few = a .few;
-          below = omega arith;
-          index = indexed-kept src n 0 w₁ w₂ (a .valid .from-low) (λ j _ q. c .frame .low j (omega arith)) (o .index);
-        };
-        small = a .small;
-        fits = begin-ask .fits;
-        still = reaching-still;
-      }
+    -- a colour is open exactly if its vertex is permitted
+    opened : (v : ℕ) → v < n → Opens reaching (col b w₁ v) → bit permitted v ≡ 1
+    opened v l q = ⊎-elim (λ e. sym (c .bits v l) ∙ e) (λ e. sym (c .bits v l) ∙ e) (paint-opens 1 2 1 2 (col b w₁ v) q)
 
-      -- a colour is open exactly if its vertex is permitted
-      opened : (v : ℕ) → v < n → Opens reaching (col b w₂ v) → bit permitted v ≡ 1
-      opened v l q = ⊎-elim (λ e. sym (c .bits v l) ∙ e) (λ e. sym (c .bits v l) ∙ e) (paint-opens 1 2 1 2 (col b w₂ v) q)
+    open-at : (v : ℕ) → v < n → bit permitted v ≡ 1 → Opens reaching (col b w₁ v)
+    open-at v l e q =
+        let y : col b w₁ v ≡ 1 = c .bits v l ∙ e in
+        let z : _≡_ {A = ℕ} 2 1 = sym (paint-first 1 2 1 2) ∙ ap reaching (sym y) ∙ q ∙ y in
+        omega arith
 
-      open-at : (v : ℕ) → v < n → bit permitted v ≡ 1 → Opens reaching (col b w₂ v)
-      open-at v l e q =
-          let y : col b w₂ v ≡ 1 = c .bits v l ∙ e in
-          let z : _≡_ {A = ℕ} 2 1 = sym (paint-first 1 2 1 2) ∙ ap reaching (sym y) ∙ q ∙ y in
-          omega arith
+    -- a permitted start
+    chosen-low : (v : ℕ) → bit r₁ v ≡ 1 → v < n
+    chosen-low v e = elim (decLt v n) as (λ _. v < n) [
+      | yes l ↦ l
+      | no l ↦ absurd (omega (arith, h .above v (omega arith)))
+    ]
 
-      -- a permitted start
-      chosen-low : (v : ℕ) → bit r₁ v ≡ 1 → v < n
-      chosen-low v e = elim (decLt v n) as (λ _. v < n) [
-        | yes l ↦ l
-        | no l ↦ absurd (omega (arith, h .above v (omega arith)))
-      ]
+    chosen-start : (v : ℕ) → bit r₁ v ≡ 1 → bit starts v ≡ 1
+    chosen-start v e = omega (arith, h .below v (chosen-low v e), bit-lt starts v, bit-lt permitted v)
 
-      chosen-start : (v : ℕ) → bit r₁ v ≡ 1 → bit starts v ≡ 1
-      chosen-start v e = omega (arith, h .below v (chosen-low v e), bit-lt starts v, bit-lt permitted v)
+    chosen-permitted : (v : ℕ) → bit r₁ v ≡ 1 → bit permitted v ≡ 1
+    chosen-permitted v e = omega (arith, h .below v (chosen-low v e), bit-lt starts v, bit-lt permitted v)
 
-      chosen-permitted : (v : ℕ) → bit r₁ v ≡ 1 → bit permitted v ≡ 1
-      chosen-permitted v e = omega (arith, h .below v (chosen-low v e), bit-lt starts v, bit-lt permitted v)
+    abbrev Chosen·starts : Part
+    Chosen·starts v = bit r₁ v ≡ 1
 
-      abbrev Chosen·starts : Part
-      Chosen·starts v = bit r₁ v ≡ 1
+    module _ (w₂ : List ℕ) (k : ℕ) (z : BegunBelow n n b r₁ w₁ w₂ k) where
+      begun : Begun g reaching b Chosen·starts w₁ w₂ k
+      begun = record { grew = z .grew; low = chosen-low; shut = λ v i. z .shut v (chosen-low v i) i }
 
-      module _ (w₃ : List ℕ) (k : ℕ) (z : BegunBelow n n b r₁ w₂ w₃ k) where
-        begun : Begun g reaching b Chosen·starts w₂ w₃ k
-        begun = record { grew = z .grew; low = chosen-low; shut = λ v i. z .shut v (chosen-low v i) i }
+      pub spread-ask : LevelAsk g reaching 0 b 0 w₂ k
+      spread-ask = begun-ask g reaching 0 b w₁ search-ask Chosen·starts w₂ k begun
 
-        pub spread-ask : LevelAsk g reaching 0 b 0 w₃ k
-        spread-ask = begun-ask g reaching 0 b w₂ search-ask Chosen·starts w₃ k begun
+      module _ (w₃ : List ℕ) (k' seen : ℕ) (s : Spread g reaching b w₂ k k' w₃ k' seen) where
+        searched : Searched g reaching b Chosen·starts w₁ w₃ k' seen
+        searched = begun-searched g reaching 0 b w₁ search-ask Chosen·starts w₂ k begun w₃ k' seen s
 
-        module _ (w₄ : List ℕ) (k' seen : ℕ) (s : Spread g reaching b w₃ k k' w₄ k' seen) where
-          searched : Searched g reaching b Chosen·starts w₂ w₄ k' seen
-          searched = begun-searched g reaching 0 b w₂ search-ask Chosen·starts w₃ k begun w₄ k' seen s
+        pub gather-ask : GatherAsk (b + n) k' w₃ r₁
+        gather-ask = record {
+          room = omega (arith, searched .few, begin-ask .fits, searched .kept .long);
+          inside = λ i l. omega (arith, searched .member i l .0, begin-ask .words);
+        }
 
-          pub gather-ask : GatherAsk (b + n) k' w₄ r₁
-          gather-ask = record {
-            room = omega (arith, searched .few, begin-ask .fits, searched .kept .long);
-            inside = λ i l. omega (arith, searched .member i l .0, begin-ask .words);
+        abbrev Hits : Part
+        Hits = Hit g reaching b Chosen·starts w₁
+
+        abbrev Reaches : Part
+        Reaches = Fwd g (Members n permitted) (Members n starts)
+
+        hit-reached : (v : ℕ) → Hits v → Reaches v
+        hit-reached v (x, i, (d, p)) =
+            (x, (chosen-low x i, chosen-start x i), (d, chain-low (a .table .valid) (λ u l q. (l, opened u l q)) (chosen-low x i) p))
+
+        reached-hit : (v : ℕ) → Reaches v → Hits v
+        reached-hit v (x, i, (d, p)) =
+            let f = chain-first p in
+            (x, omega (arith, h .below x (i .0), i .1, f .1), (d, chain-wider {g = g} {P = Members n permitted} {Q = λ u. Opens reaching (col b w₁ u)} (λ u t. open-at u (t .0) (t .1)) p))
+
+        reached-low : (v : ℕ) → Reaches v → v < n
+        reached-low v (x, i, (d, p)) = chain-last p .0
+
+        module _ (r₂ : List ℕ) (t : Gathered (b + n) k' w₃ r₁ r₂) where
+          bit-hit : (v : ℕ) → bit r₂ v ≡ 1 → Hits v
+          bit-hit v e = ⊎-elim {C = Hits v}
+              (λ i. (v, i, (0, stay (open-at v (chosen-low v i) (chosen-permitted v i)))))
+              (λ i. subst Hits (i .2) (searched .member (i .0) (i .1) .1))
+              (t .only v e)
+
+          hit-bit : (v : ℕ) → v < n → Hits v → bit r₂ v ≡ 1
+          hit-bit v l q = let i = searched .listed v l q in subst (λ (u : ℕ). bit r₂ u ≡ 1) (i .2) (t .listed (i .0) (i .1))
+
+          sound : (v : ℕ) → bit r₂ v ≡ 1 → Reaches v
+          sound v e = hit-reached v (bit-hit v e)
+
+          complete : (v : ℕ) → Reaches v → bit r₂ v ≡ 1
+          complete v q = hit-bit v (reached-low v q) (reached-hit v q)
+
+          above : (v : ℕ) → n ≤ v → bit r₂ v ≡ 0
+          above v l = elim (ℕ-discrete (bit r₂ v) 1) as (λ _. bit r₂ v ≡ 0) [
+            | yes e ↦ absurd (omega (arith, reached-low v (sound v e)))
+            | no e ↦ omega (arith, bit-lt r₂ v)
+          ]
+
+          -- painted is reached
+          painted-in : (v : ℕ) → v < n → T (painted reaching b w₁ w₃ v) → T (members n r₂ v)
+          painted-in v l p =
+              let q = and-split (opens reaching (col b w₁ v)) (not (opens reaching (col b w₃ v))) p in
+              ⊎-elim {C = T (members n r₂ v)}
+              (λ i. members-in n r₂ v l (hit-bit v l (i .0)))
+              (λ i. absurd (T-not (opens reaching (col b w₃ v)) (q .1) (rw (i .1) (q .0))))
+              (searched .each v l)
+
+          in-painted : (v : ℕ) → v < n → T (members n r₂ v) → T (painted reaching b w₁ w₃ v)
+          in-painted v l p =
+              let e = members-out n r₂ v p .1 in
+              let q : Hits v = bit-hit v e in
+              and-make (opens reaching (col b w₁ v)) (not (opens reaching (col b w₃ v))) (opens-T reaching (col b w₁ v) (chain-last (q .2 .1)))
+              (not-T (opens reaching (col b w₃ v)) (λ y. T-opens reaching (col b w₃ v) y (⊎-elim {C = Shut reaching (col b w₃ v)}
+              (λ i. rw (i .1) (reaching-still (col b w₁ v)))
+              (λ i. absurd (i .0 q))
+              (searched .each v l))))
+
+          pub found : Found g starts permitted w₀ r₀ w₃ r₂ seen
+          found = record {
+            long = t .long ∙ h .long;
+            sound = sound;
+            complete = complete;
+            above = above;
+            count = searched .looked ∙ looked-same g (painted reaching b w₁ w₃) (members n r₂) (λ e l. painted-in (from g e) (a .table .valid .from-low e l)) (λ e l. in-painted (from g e) (a .table .valid .from-low e l));
+            frame = record {
+              long = searched .kept .long ∙ c .frame .long;
+              low = λ j l. absurd (omega arith);
+              high = λ j l. searched .kept .high j (omega arith) ∙ c .frame .high j (omega arith);
+            };
           }
-
-          abbrev Hits : Part
-          Hits = Hit g reaching b Chosen·starts w₂
-
-          abbrev Reaches : Part
-          Reaches = Fwd g (Members n permitted) (Members n starts)
-
-          hit-reached : (v : ℕ) → Hits v → Reaches v
-          hit-reached v (x, i, (d, p)) =
-              (x, (chosen-low x i, chosen-start x i), (d, chain-low (a .valid) (λ u l q. (l, opened u l q)) (chosen-low x i) p))
-
-          reached-hit : (v : ℕ) → Reaches v → Hits v
-          reached-hit v (x, i, (d, p)) =
-              let f = chain-first p in
-              (x, omega (arith, h .below x (i .0), i .1, f .1), (d, chain-wider {g = g} {P = Members n permitted} {Q = λ u. Opens reaching (col b w₂ u)} (λ u t. open-at u (t .0) (t .1)) p))
-
-          reached-low : (v : ℕ) → Reaches v → v < n
-          reached-low v (x, i, (d, p)) = chain-last p .0
-
-          module _ (r₂ : List ℕ) (t : Gathered (b + n) k' w₄ r₁ r₂) where
-            bit-hit : (v : ℕ) → bit r₂ v ≡ 1 → Hits v
-            bit-hit v e = ⊎-elim {C = Hits v}
-                (λ i. (v, i, (0, stay (open-at v (chosen-low v i) (chosen-permitted v i)))))
-                (λ i. subst Hits (i .2) (searched .member (i .0) (i .1) .1))
-                (t .only v e)
-
-            hit-bit : (v : ℕ) → v < n → Hits v → bit r₂ v ≡ 1
-            hit-bit v l q = let i = searched .listed v l q in subst (λ (u : ℕ). bit r₂ u ≡ 1) (i .2) (t .listed (i .0) (i .1))
-
-            sound : (v : ℕ) → bit r₂ v ≡ 1 → Reaches v
-            sound v e = hit-reached v (bit-hit v e)
-
-            complete : (v : ℕ) → Reaches v → bit r₂ v ≡ 1
-            complete v q = hit-bit v (reached-low v q) (reached-hit v q)
-
-            above : (v : ℕ) → n ≤ v → bit r₂ v ≡ 0
-            above v l = elim (ℕ-discrete (bit r₂ v) 1) as (λ _. bit r₂ v ≡ 0) [
-              | yes e ↦ absurd (omega (arith, reached-low v (sound v e)))
-              | no e ↦ omega (arith, bit-lt r₂ v)
-            ]
-
-            -- painted is reached
-            painted-in : (v : ℕ) → v < n → T (painted reaching b w₂ w₄ v) → T (members n r₂ v)
-            painted-in v l p =
-                let q = and-split (opens reaching (col b w₂ v)) (not (opens reaching (col b w₄ v))) p in
-                ⊎-elim {C = T (members n r₂ v)}
-                (λ i. members-in n r₂ v l (hit-bit v l (i .0)))
-                (λ i. absurd (T-not (opens reaching (col b w₄ v)) (q .1) (rw (i .1) (q .0))))
-                (searched .each v l)
-
-            in-painted : (v : ℕ) → v < n → T (members n r₂ v) → T (painted reaching b w₂ w₄ v)
-            in-painted v l p =
-                let e = members-out n r₂ v p .1 in
-                let q : Hits v = bit-hit v e in
-                and-make (opens reaching (col b w₂ v)) (not (opens reaching (col b w₄ v))) (opens-T reaching (col b w₂ v) (chain-last (q .2 .1)))
-                (not-T (opens reaching (col b w₄ v)) (λ y. T-opens reaching (col b w₄ v) y (⊎-elim {C = Shut reaching (col b w₄ v)}
-                (λ i. rw (i .1) (reaching-still (col b w₂ v)))
-                (λ i. absurd (i .0 q))
-                (searched .each v l))))
-
-            pub found : Found g starts permitted w₀ r₀ w₄ r₂ seen
-            found = record {
-              long = t .long ∙ h .long;
-              sound = sound;
-              complete = complete;
-              above = above;
-              count = searched .looked ∙ looked-same g (painted reaching b w₂ w₄) (members n r₂) (λ e l. painted-in (from g e) (a .valid .from-low e l)) (λ e l. in-painted (from g e) (a .valid .from-low e l));
-              frame = record {
-                long = searched .kept .long ∙ c .frame .long ∙ o .long;
-                low = λ j l. absurd (omega arith);
-                high = λ j l. searched .kept .high j (omega arith) ∙ c .frame .high j (omega arith) ∙ o .rest j (omega arith);
-              };
-            }

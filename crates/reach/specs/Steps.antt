@@ -10,6 +10,7 @@ use Rattle.graph.specs.Parts.{Fwd}
 use Rattle.graph.specs.Search.{looked}
 use Rattle.graph.specs.Sets.{bit, Members, members}
 use Rattle.graph.specs.Memory.{Framed}
+use Rattle.index.specs.Index.{Held}
 use Rattle.paint.specs.Colours.{paint, col, Opens, Shut}
 use Rattle.paint.specs.Paint.{Grew, VisitAsk}
 
@@ -68,11 +69,17 @@ pub record Gathered (q k : ℕ) (w r r' : List ℕ) : Type 0 where
   pub listed : (i : ℕ) → i < k → bit r' (getD w (q + i) 0) ≡ 1
   pub only : (v : ℕ) → bit r' v ≡ 1 → (bit r v ≡ 1) ⊎ ((i : ℕ) × (i < k) × (getD w (q + i) 0 ≡ v))
 
-pub record RunAsk (g : Graph) (starts permitted w r : List ℕ) : Type 0 where
+-- the table is sound, and w has room for a search
+pub record TableAsk (g : Graph) (w : List ℕ) : Type 0 where
   pub valid : Valid g
   pub small : g .n ≤ mostVertices
   pub few : edges g ≤ mostEdges
   pub room : 3 * g .n + 1 + edges g ≤ length w
+
+-- the same, and w's front holds the neighbours of its vertices
+pub record RunAsk (g : Graph) (starts permitted w r : List ℕ) : Type 0 where
+  pub table : TableAsk g w
+  pub index : Held g 0 w
   pub sets : ChooseAsk (g .n) starts permitted r
 
 -- The set r' is what the starts reach within the permitted set, and `seen` the number of edges whose source is in it.

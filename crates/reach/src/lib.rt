@@ -75,16 +75,8 @@ pub fn search(
     if fault != 0 {
         return Answer::Refused(fault);
     }
-    let edges = steps::directed(
-        n,
-        sources,
-        targets,
-        starts,
-        permitted,
-        backward,
-        numbers,
-        reached,
-    );
+    steps::neighbours(n, sources, targets, backward, numbers);
+    let edges = steps::run(n, sources.len(), starts, permitted, numbers, reached);
     let vertices = sets::size(reached);
     memory::clear(n, sources.len(), numbers, words);
     Answer::Done {

@@ -1,6 +1,8 @@
 // A search in one direction: sets become colours, the search core paints them, and what was painted becomes a set.
 ghost use Rattle.graph.specs.Graph.{graph, turned};
-ghost use Rattle.reach.specs.Steps.{ColourAsk, Coloured, ChooseAsk, Chosen, BeginOneAsk, BegunOne, BeginAsk, BegunBelow, GatherAsk, Gathered, RunAsk, Found};
+ghost use Rattle.graph.specs.Arrows.{SomeOf, EveryOf};
+ghost use Rattle.index.specs.Build.{One};
+ghost use Rattle.reach.specs.Steps.{ColourAsk, Coloured, ChooseAsk, Chosen, BeginOneAsk, BegunOne, BeginAsk, BegunBelow, GatherAsk, Gathered, TableAsk, RunAsk, Found};
 use index::build;
 use index::memory;
 
@@ -70,57 +72,35 @@ fn gather(w: &[u32], q: usize, k: usize, r: &mut [u64])
     }
 }
 
-// The search along the edges from `from` to `to`: r becomes the set of what is reached. The number of edges looked at.
-fn run(
-    from: &[u32],
-    to: &[u32],
+// The index in the direction of the search, at the front of w: backward, the columns change places.
+pub fn neighbours(n: usize, sources: &[u32], targets: &[u32], backward: bool, w: &mut [u32])
+    requires { ⌜ TableAsk (graph n (now sources) (now targets)) (now w) ⌝ }
+    ensures { λ _. ⌜ One (turned backward (graph n (now (sources .entry)) (now (targets .entry)))) (now (w .entry)) (now (w .exit)) ⌝ }
+{
+    if backward {
+        build::one(targets, sources, n, w);
+        return;
+    }
+    build::one(sources, targets, n, w);
+}
+
+// The search along the index at the front of w: r becomes the set of what is reached. The number of edges looked at.
+pub fn run(
     n: usize,
+    m: usize,
     starts: &[u64],
     permitted: &[u64],
     w: &mut [u32],
     r: &mut [u64],
 ) -> usize
-    requires { ⌜ RunAsk (graph n (now from) (now to)) (now starts) (now permitted) (now w) (now r) ⌝ }
-    ensures { λ e. ⌜ Found (graph n (now (from .entry)) (now (to .entry))) (now (starts .entry)) (now (permitted .entry)) (now (w .entry)) (now (r .entry)) (now (w .exit)) (now (r .exit)) e ⌝ }
+    requires { ⌜ SomeOf n m (λ g. RunAsk g (now starts) (now permitted) (now w) (now r)) ⌝ }
+    ensures { λ e. ⌜ EveryOf n m (λ g. RunAsk g (now (starts .entry)) (now (permitted .entry)) (now (w .entry)) (now (r .entry)) → Found g (now (starts .entry)) (now (permitted .entry)) (now (w .entry)) (now (r .entry)) (now (w .exit)) (now (r .exit)) e) ⌝ }
 {
-    let b = n + 1 + from.len();
-    build::one(from, n, w);
+    let b = n + 1 + m;
     colour(n, permitted, w, b);
     choose(n, starts, permitted, r);
     let k = begin(n, r, w, b);
-    let s = paint::spread(
-        from,
-        to,
-        n,
-        w,
-        0,
-        b,
-        PERMITTED,
-        REACHED,
-        PERMITTED,
-        REACHED,
-        k,
-    );
+    let s = paint::spread(n, w, 0, b, PERMITTED, REACHED, PERMITTED, REACHED, k);
     gather(w, b + n, s.k, r);
     s.edges
-}
-
-// The search in the direction asked for: backward, the columns change places.
-pub fn directed(
-    n: usize,
-    sources: &[u32],
-    targets: &[u32],
-    starts: &[u64],
-    permitted: &[u64],
-    backward: bool,
-    w: &mut [u32],
-    r: &mut [u64],
-) -> usize
-    requires { ⌜ RunAsk (graph n (now sources) (now targets)) (now starts) (now permitted) (now w) (now r) ⌝ }
-    ensures { λ e. ⌜ Found (turned backward (graph n (now (sources .entry)) (now (targets .entry)))) (now (starts .entry)) (now (permitted .entry)) (now (w .entry)) (now (r .entry)) (now (w .exit)) (now (r .exit)) e ⌝ }
-{
-    if backward {
-        return run(targets, sources, n, starts, permitted, w, r);
-    }
-    run(sources, targets, n, starts, permitted, w, r)
 }

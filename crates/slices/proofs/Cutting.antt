@@ -17,20 +17,20 @@ use Rattle.graph.proofs.Chains.{chain-first, valid-rev, same-low, reach-wider}
 use Rattle.graph.proofs.Decompose.{rest-covered}
 use Rattle.graph.proofs.Method.{bwd-rev}
 use Rattle.paint.specs.Colours.{col, paint, Opens, Hit}
-use Rattle.paint.specs.Paint.{SearchAsk, VisitAsk, Visited, Begun, Searched}
+use Rattle.paint.specs.Paint.{SearchAsk, VisitAsk, Visited, LevelAsk, Spread, Begun, Searched}
 use Rattle.paint.proofs.Painting.{paint-first, paint-still, paint-opens}
 use Rattle.paint.proofs.Growth.{grew-none}
-use Rattle.paint.proofs.Spreading.{begun-ready, begun-more}
+use Rattle.paint.proofs.Spreading.{begun-ready, begun-more, begun-ask, begun-searched}
 use Rattle.paint.proofs.Components.{fwd-low, search-whole-back}
 use Rattle.trim.specs.Cursor.{cur, Side}
 use Rattle.trim.proofs.Walks.{side-kept}
 use Rattle.parts.specs.State.{Tables, Owned}
-use Rattle.slices.specs.Seeds.{flag, seed, Rest, Seeds, unmarked, Marked, Next, Behind, AllAsk}
+use Rattle.slices.specs.Seeds.{flag, seed, Rest, Seeds, unmarked, Marked, Behind, AllAsk}
 use Rattle.slices.specs.Peel.{into, Standing, Inside}
 use Rattle.slices.specs.Slice.{Listed, CutAsk, Cut}
 use Rattle.parts.proofs.Splitting.{tables-kept}
 
-module _ (g : Graph) (b r s l e : ℕ) (w : List ℕ) (a : CutAsk g b r s l e w) where
+module _ {g : Graph} {b r s l e : ℕ} {w : List ℕ} (a : CutAsk g b r s l e w) where
   st : Standing g b r w
   st = a .listing .standing
 
@@ -40,9 +40,9 @@ module _ (g : Graph) (b r s l e : ℕ) (w : List ℕ) (a : CutAsk g b r s l e w)
   still : (y : ℕ) → paint r s r s (paint r s r s y) ≡ paint r s r s y
   still = paint-still r s r s (omega (arith, a .under)) (omega (arith, a .under)) (omega (arith, a .under)) (omega (arith, a .under))
 
-  pub cut-ask : SearchAsk (rev g) (paint r s r s) (g .n + 1 + edges g) b w
-  cut-ask = let x = st .side .laid in record {
-    laid = record { valid = x .valid; counts = x .counts; few = x .few; below = x .below; index = x .index };
+  cut-ask : SearchAsk (rev g) (paint r s r s) (g .n + 1 + edges g) b w
+  cut-ask = record {
+    laid = st .side .laid;
     small = st .tables .small;
     fits = omega (arith, st .long);
     still = still;
@@ -59,18 +59,18 @@ module _ (g : Graph) (b r s l e : ℕ) (w : List ℕ) (a : CutAsk g b r s l e w)
   pub sow-none : Begun (rev g) (paint r s r s) b (Listed (g .n) b w l l) w w 0
   sow-none = record { grew = grew-none (paint r s r s) (g .n) b w 0 _; low = λ v t. absurd (omega (arith, t .1, t .2)); shut = λ v t. absurd (omega (arith, t .1, t .2)) }
 
-  module _ (i : ℕ) (x : List ℕ) (k : ℕ) (h : i < e) (o : l ≤ i) (z : Begun (rev g) (paint r s r s) b (Listed (g .n) b w l i) w x k) where
-    pub sow-same : seed (g .n) b x i ≡ seed (g .n) b w i
+  module _ {i : ℕ} {x : List ℕ} {k : ℕ} (h : i < e) (o : l ≤ i) (z : Begun (rev g) (paint r s r s) b (Listed (g .n) b w l i) w x k) where
+    sow-same : seed (g .n) b x i ≡ seed (g .n) b w i
     sow-same = z .grew .kept .high (b + 8 * g .n + 2 + i) (omega arith)
 
-    pub sow-low : seed (g .n) b x i < g .n
+    sow-low : seed (g .n) b x i < g .n
     sow-low = rw sow-same (a .listing .member i h)
 
     pub sow-visit : VisitAsk (paint r s r s) (g .n) b (seed (g .n) b x i) x k
     sow-visit = record { ready = begun-ready (rev g) (paint r s r s) (g .n + 1 + edges g) b w cut-ask (Listed (g .n) b w l i) x k z; vertex = sow-low }
 
-    pub sow-step : (x' : List ℕ) (k' : ℕ) → Visited (paint r s r s) (g .n) b (seed (g .n) b x i) x k x' k' → Begun (rev g) (paint r s r s) b (Listed (g .n) b w l (i + 1)) w x' k'
-    sow-step x' k' m = begun-more (rev g) (paint r s r s) (g .n + 1 + edges g) b w cut-ask (Listed (g .n) b w l i) x k z (Listed (g .n) b w l (i + 1)) (seed (g .n) b x i) x' k' sow-low
+    pub sow-step : {x' : List ℕ} {k' : ℕ} → Visited (paint r s r s) (g .n) b (seed (g .n) b x i) x k x' k' → Begun (rev g) (paint r s r s) b (Listed (g .n) b w l (i + 1)) w x' k'
+    sow-step {x'} {k'} m = begun-more (rev g) (paint r s r s) (g .n + 1 + edges g) b w cut-ask (Listed (g .n) b w l i) x k z (Listed (g .n) b w l (i + 1)) (seed (g .n) b x i) x' k' sow-low
         (λ v (j, p, q, t). (j, p, omega arith, t))
         (i, o, omega arith, sym sow-same)
         (λ v (j, p, q, t). elim (decLt j i) as (λ _. Listed (g .n) b w l i v ⊎ (v ≡ seed (g .n) b x i)) [
@@ -80,7 +80,14 @@ module _ (g : Graph) (b r s l e : ℕ) (w : List ℕ) (a : CutAsk g b r s l e w)
         m
 
   -- CUTTING
-  module _ (w₁ : List ℕ) (k seen : ℕ) (f : Searched (rev g) (paint r s r s) b (Listed (g .n) b w l e) w w₁ k seen) where
+  module _ {x : List ℕ} {k : ℕ} (z : Begun (rev g) (paint r s r s) b (Listed (g .n) b w l e) w x k) where
+    pub cut-level : LevelAsk (rev g) (paint r s r s) (g .n + 1 + edges g) b 0 x k
+    cut-level = begun-ask (rev g) (paint r s r s) (g .n + 1 + edges g) b w cut-ask (Listed (g .n) b w l e) x k z
+
+    pub cut-searched : {x' : List ℕ} {k' seen : ℕ} → Spread (rev g) (paint r s r s) b x k k' x' k' seen → Searched (rev g) (paint r s r s) b (Listed (g .n) b w l e) w x' k' seen
+    cut-searched {x'} {k'} {seen} y = begun-searched (rev g) (paint r s r s) (g .n + 1 + edges g) b w cut-ask (Listed (g .n) b w l e) x k z x' k' seen y
+
+  module _ {w₁ : List ℕ} {k seen : ℕ} (f : Searched (rev g) (paint r s r s) b (Listed (g .n) b w l e) w w₁ k seen) where
     abbrev X : Part
     X = Listed (g .n) b w l e
 
@@ -134,7 +141,7 @@ module _ (g : Graph) (b r s l e : ℕ) (w : List ℕ) (a : CutAsk g b r s l e w)
       room = omega (arith, a .listing .room, less-free);
     }
 
-    module _ (w₂ : List ℕ) (e' : ℕ) (m : Marked (g .n) b r w₁ e w₂ e' (Behind g b w₁ k)) where
+    module _ {w₂ : List ℕ} {e' : ℕ} (m : Marked (g .n) b r w₁ e w₂ e' (Behind g b w₁ k)) where
       col₂ : (v : ℕ) → v < g .n → col b w₂ v ≡ col b w₁ v
       col₂ v h = m .low (b + v) (omega arith)
 

@@ -30,10 +30,10 @@ use Rattle.slices.specs.Divide.{KindAsk, KindSwept, WholeAsk, Division}
 use Rattle.slices.proofs.Sweeping.{slicings-uncut, slicings-inside, slicings-least, slicings-few, slicings-ours, slicings-kind}
 
 -- BY KIND
-module _ (g : Graph) (b h q kind state top : ℕ) (w ws : List ℕ) (a : KindAsk g b h q top w ws) where
-  pub kind-order : (kind ≡ 1 → ⊥) → (w' : List ℕ) (top' : ℕ) → Swept g b q 0 0 top w w' top' → KindSwept g b q kind state top w ws w' ws state 0 top'
+module _ {g : Graph} {b h q top : ℕ} {w ws : List ℕ} (a : KindAsk g b h q top w ws) where
+  pub kind-order : {kind state top' : ℕ} {w' : List ℕ} → (kind ≡ 1 → ⊥) → Swept g b q 0 0 top w w' top' → KindSwept g b q kind state top w ws w' ws state 0 top'
   unfolding draws
-  kind-order o w' top' z = record {
+  kind-order {kind} o z = record {
     pivots = z .pivots;
     slicings = slicings-kind o (z .slicings);
     drawn = rw (ne-eqb kind 1 o) refl;
@@ -47,9 +47,9 @@ module _ (g : Graph) (b h q kind state top : ℕ) (w ws : List ℕ) (a : KindAsk
   pub kind-lent : DrawnAsk g b h q top w (take (wordsOf (g .n)) ws)
   kind-lent = record { uncut = a .uncut; runs = a .runs; empty = lent-empty (a .blank) }
 
-  pub kind-drawn : kind ≡ 1 → (w' l : List ℕ) (state' k top' : ℕ) → SweptDrawn g b q state top w w' l state' k top'
+  pub kind-drawn : {kind state state' k top' : ℕ} {w' l : List ℕ} → kind ≡ 1 → SweptDrawn g b q state top w w' l state' k top'
       → KindSwept g b q kind state top w ws w' (l ++ drop (wordsOf (g .n)) ws) state' k top'
-  kind-drawn e w' l state' k top' z = rw e (record {
+  kind-drawn {k = k} e z = rw e (record {
     pivots = k;
     slicings = z .slicings;
     drawn = refl;
@@ -61,7 +61,7 @@ module _ (g : Graph) (b h q kind state top : ℕ) (w ws : List ℕ) (a : KindAsk
   })
 
 -- THE WHOLE
-module _ (g : Graph) (b kind state top : ℕ) (w ws : List ℕ) (a : WholeAsk g b top w ws) where
+module _ {g : Graph} {b top : ℕ} {w ws : List ℕ} (a : WholeAsk g b top w ws) where
   st : Stage g b top w
   st = a .ask .stage
 
@@ -71,7 +71,7 @@ module _ (g : Graph) (b kind state top : ℕ) (w ws : List ℕ) (a : WholeAsk g 
   own-whole : (i : ℕ) → i < g .n → own (g .n) b w i ≡ g .n
   own-whole i h = a .whole (ord (g .n) b w i) (st .placed .low i h)
 
-  module _ (w₁ : List ℕ) (p : Prepared (g .n) (edges g) b w (g .n) w₁) where
+  module _ {w₁ : List ℕ} (p : Prepared (g .n) (edges g) b w (g .n) w₁) where
     c₁ : (v : ℕ) → v < g .n → col b w₁ v ≡ col b w v
     c₁ v h = p .low (b + v) (omega arith)
 
@@ -107,7 +107,7 @@ module _ (g : Graph) (b kind state top : ℕ) (w ws : List ℕ) (a : WholeAsk g 
     pub whole-kind : KindAsk g b 0 (g .n) top w₁ ws
     whole-kind = record { uncut = uncut₁; runs = runs₁; blank = a .ask .blank }
 
-    module _ (w₂ ws₂ : List ℕ) (state' k top' : ℕ) (y : KindSwept g b (g .n) kind state top w₁ ws w₂ ws₂ state' k top') where
+    module _ {w₂ ws₂ : List ℕ} {kind state state' k top' : ℕ} (y : KindSwept g b (g .n) kind state top w₁ ws w₂ ws₂ state' k top') where
       after : Uncut g b (g .n) top' w₂
       after = slicings-uncut uncut₁ (y .slicings)
 
@@ -129,7 +129,7 @@ module _ (g : Graph) (b kind state top : ℕ) (w ws : List ℕ) (a : WholeAsk g 
       pub whole-share : ShareAsk (g .n) b top top' 0 w₂
       whole-share = hand-ask (a .ask) whole-recoloured
 
-      module _ (w₃ : List ℕ) (children : ℕ) (x : Sharing (g .n) b top top' w₂ (g .n) w₃ children) where
+      module _ {w₃ : List ℕ} {children : ℕ} (x : Sharing (g .n) b top top' w₂ (g .n) w₃ children) where
         c₃ : (v : ℕ) → v < g .n → col b w₃ v ≡ col b w₂ v
         c₃ = hand-colour (a .ask) whole-recoloured x
 

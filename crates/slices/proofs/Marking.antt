@@ -4,7 +4,7 @@ use native.Mathlib.Omega.{arith}
 use native.Mathlib.Decide.{ℕ-discrete, decLt}
 use mathlib.Core.Path.{_≡_, refl, sym, _∙_}
 use mathlib.Core.Logic.{_⊎_, inl, inr, ⊎-elim}
-use mathlib.Core.Bool.{Bool, false, _&&_}
+use mathlib.Core.Bool.{false, _&&_}
 use mathlib.Core.List.{List}
 use lib.ListN.{getD, set, length-set}
 use lib.Seq.{getD-set-same, getD-set-other}
@@ -76,9 +76,6 @@ module _ (n b r : ℕ) where
 
     set-flag : flag n b w₂ y ≡ 0 → ⊥
     set-flag z = omega (arith, z, flagged)
-
-    free : List ℕ → ℕ → Bool
-    free x v = eqb (col b x v) r && eqb (flag n b x v) 0
 
     was-free : (v : ℕ) → v < n → T (eqb (col b w₂ v) r && eqb (flag n b w₂ v) 0) → T (eqb (col b w v) r && eqb (flag n b w v) 0)
     was-free v h t = elim (ℕ-discrete v y) as (λ _. T (eqb (col b w v) r && eqb (flag n b w v) 0)) [

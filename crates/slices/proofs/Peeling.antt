@@ -9,11 +9,11 @@ use mathlib.Core.List.{List}
 use lib.ListN.{length, getD, set, length-set}
 use lib.Seq.{getD-set-same, getD-set-other}
 use lib.Dec.{eqb, eqb→eq}
-use Rattle.graph.specs.Graph.{Graph, Part, rev, edges, to}
+use Rattle.graph.specs.Graph.{Graph, Part, rev, edges}
 use Rattle.graph.specs.Parts.{Closed, Fwd, Alone, Entered, only, _∖_}
 use Rattle.graph.specs.Parts as parts
 use Rattle.graph.proofs.Tests.{and-l, and-r, and-make, eq-T}
-use Rattle.graph.proofs.Counts.{many-mono, many-more}
+use Rattle.graph.proofs.Counts.{many-le, many-mono, many-more}
 use Rattle.graph.proofs.Chains.{chain-first, edge-rev, same-low, same-sym, reach-wider}
 use Rattle.graph.proofs.Decompose.{none-enters, seed-removed}
 use Rattle.graph.proofs.Method.{alone-label}
@@ -22,10 +22,10 @@ use Rattle.trim.proofs.Walks.{side-kept, on-side, on-none}
 use Rattle.paint.specs.Colours.{col, que}
 use Rattle.parts.specs.State.{Tables, Owned}
 use Rattle.slices.specs.Seeds.{flag, seed, Rest, Seeds, unmarked, Marked, Next, NextAsk}
-use Rattle.slices.specs.Peel.{into, remaining, Standing, Inside, Peeled, PeelAsk}
-use Rattle.index.specs.Index.{start}
+use Rattle.slices.specs.Peel.{into, remaining, Standing, Inside, Peeled, PeelAsk, DrainAsk, PassAsk}
+use Rattle.index.specs.Index.{first}
 use Rattle.parts.proofs.Splitting.{tables-kept}
-use Rattle.slices.proofs.Walking.{row-last, row-edge, row-low}
+use Rattle.slices.proofs.Walking.{Turn, first-at, row-turn}
 
 pub inside-none : (n b : ℕ) (w : List ℕ) → Inside n b w w
 inside-none n b w = record { low = λ j h. refl; mid = λ j h l. refl; high = λ j h. refl; long = refl }
@@ -34,8 +34,22 @@ pub inside-more : {n b : ℕ} {w w₁ w₂ : List ℕ} → Inside n b w w₁ →
 inside-more x y = record { low = λ j h. y .low j h ∙ x .low j h; mid = λ j h l. y .mid j h l ∙ x .mid j h l; high = λ j h. y .high j h ∙ x .high j h; long = y .long ∙ x .long }
 
 module _ (g : Graph) (b r : ℕ) where
-  pub peeled-none : (w : List ℕ) (e k : ℕ) → Standing g b r w → Peeled g b r w e k w e k
-  peeled-none w e k s = record {
+  -- the part that remains, when only marks have been added
+  rest-same : (w w' : List ℕ) → ((v : ℕ) → v < g .n → col b w' v ≡ col b w v) → (v : ℕ) → Rest (g .n) b r w v → Rest (g .n) b r w' v
+  rest-same w w' f v (h, c) = (h, f v h ∙ c)
+
+  -- seeds may be more
+  cover-more : (w w' : List ℕ) (X : Part) → ((v : ℕ) → v < g .n → col b w' v ≡ col b w v)
+      → ((v : ℕ) → Rest (g .n) b r w v → X v → Seeds (g .n) b r w' v)
+      → ((v : ℕ) → Rest (g .n) b r w v → Fwd g (Rest (g .n) b r w) X v)
+      → (v : ℕ) → Rest (g .n) b r w' v → Fwd g (Rest (g .n) b r w') (Seeds (g .n) b r w') v
+  cover-more w w' X f s c v (h, i) =
+      let (x, j, q) = c v (h, sym (f v h) ∙ i) in
+      (x, s x (chain-first (q .1)) j, reach-wider {P = Rest (g .n) b r w} {Q = Rest (g .n) b r w'} (rest-same w w' f) q)
+
+module _ {g : Graph} {b r : ℕ} where
+  pub peeled-none : {w : List ℕ} {e k : ℕ} → Standing g b r w → Peeled g b r w e k w e k
+  peeled-none {w} {e} {k} s = record {
     standing = s;
     went = λ v h. inl refl;
     kept = λ v h o. (refl, refl);
@@ -51,8 +65,8 @@ module _ (g : Graph) (b r : ℕ) where
     inside = inside-none (g .n) b w;
   }
 
-  pub peeled-more : (w w₁ w₂ : List ℕ) (e e₁ e₂ k k₁ k₂ : ℕ) → Peeled g b r w e k w₁ e₁ k₁ → Peeled g b r w₁ e₁ k₁ w₂ e₂ k₂ → Peeled g b r w e k w₂ e₂ k₂
-  peeled-more w w₁ w₂ e e₁ e₂ k k₁ k₂ x y = record {
+  pub peeled-more : {w w₁ w₂ : List ℕ} {e e₁ e₂ k k₁ k₂ : ℕ} → Peeled g b r w e k w₁ e₁ k₁ → Peeled g b r w₁ e₁ k₁ w₂ e₂ k₂ → Peeled g b r w e k w₂ e₂ k₂
+  peeled-more {w} {w₁} {w₂} {e} {e₁} {e₂} {k} {k₁} {k₂} x y = record {
     standing = y .standing;
     went = λ v h. ⊎-elim
         (λ s. ⊎-elim (λ t. inl (t ∙ s)) (λ t. inr (sym s ∙ t .0, t .1, t .2)) (y .went v h))
@@ -74,30 +88,14 @@ module _ (g : Graph) (b r : ℕ) where
     inside = inside-more (x .inside) (y .inside);
   }
 
-  -- the part that remains, when only marks have been added
-  rest-same : (w w' : List ℕ) → ((v : ℕ) → v < g .n → col b w' v ≡ col b w v) → (v : ℕ) → Rest (g .n) b r w v → Rest (g .n) b r w' v
-  rest-same w w' f v (h, c) = (h, f v h ∙ c)
-
-  -- seeds may be more
-  pub cover-more : (w w' : List ℕ) (X : Part) → ((v : ℕ) → v < g .n → col b w' v ≡ col b w v)
-      → ((v : ℕ) → Rest (g .n) b r w v → X v → Seeds (g .n) b r w' v)
-      → ((v : ℕ) → Rest (g .n) b r w v → Fwd g (Rest (g .n) b r w) X v)
-      → (v : ℕ) → Rest (g .n) b r w' v → Fwd g (Rest (g .n) b r w') (Seeds (g .n) b r w') v
-  cover-more w w' X f s c v (h, i) =
-      let (x, j, q) = c v (h, sym (f v h) ∙ i) in
-      (x, s x (chain-first (q .1)) j, reach-wider {P = Rest (g .n) b r w} {Q = Rest (g .n) b r w'} (rest-same w w' f) q)
-
   closed-rest : (w : List ℕ) → Standing g b r w → Closed g (Rest (g .n) b r w)
   closed-rest w s u v q (h, c) = (same-low (s .tables .valid) q h, sym (s .owned .whole u v h q) ∙ c)
 
   -- AN ENTERING CURSOR GOES ON
-  module _ (w : List ℕ) (v e k : ℕ) (a : PeelAsk g b r v e k w) (live : col b w v ≡ r) (w₁ : List ℕ) (x : ℕ)
-      (adv : Advanced (g .n) (g .n + 1 + edges g) (into g b) b v r (g .src) w w₁ x) where
+  module _ {w : List ℕ} {v e k : ℕ} (a : PeelAsk g b r v e k w) (live : col b w v ≡ r) {w₁ : List ℕ} {x : ℕ}
+      (adv : Advanced (g .n) (g .n + 1 + edges g) (into g b) b v r w w₁ x) where
     st : Standing g b r w
     st = a .standing
-
-    m-same : length (g .tgt) ≡ edges g
-    m-same = st .tables .valid .same
 
     else₁ : (j : ℕ) → (j ≡ into g b + v → ⊥) → getD w₁ j 0 ≡ getD w j 0
     else₁ j o = rw (adv .store) (getD-set-other w (into g b + v) j (adv .place) 0 o)
@@ -129,7 +127,7 @@ module _ (g : Graph) (b r : ℕ) where
       fits = st .fits;
       owned = owned₁;
       side = side₁;
-      cover = cover-more w w₁ (Seeds (g .n) b r w) col₁ (λ u (h, c) (_, _, o). (h, col₁ u h ∙ c, λ z. o (sym (flag₁ u h) ∙ z))) (st .cover);
+      cover = cover-more g b r w w₁ (Seeds (g .n) b r w) col₁ (λ u (h, c) (_, _, o). (h, col₁ u h ∙ c, λ z. o (sym (flag₁ u h) ∙ z))) (st .cover);
     }
 
     same-free : (w w' : List ℕ) → ((u : ℕ) → u < g .n → col b w' u ≡ col b w u) → ((u : ℕ) → u < g .n → flag (g .n) b w' u ≡ flag (g .n) b w u) → unmarked (g .n) b r w' ≤ unmarked (g .n) b r w
@@ -212,7 +210,7 @@ module _ (g : Graph) (b r : ℕ) where
       pub peel-next : NextAsk g b r v e (set (set w₁ (b + v) v) (b + g .n + k) v)
       peel-next = record { tables = tables₂; long = omega (arith, st .long, long₂); low = a .low; room = omega (arith, a .room, less-free) }
 
-      module _ (w₃ : List ℕ) (e' : ℕ) (m : Marked (g .n) b r w₂ e w₃ e' (Next g v)) where
+      module _ {w₃ : List ℕ} {e' : ℕ} (m : Marked (g .n) b r w₂ e w₃ e' (Next g v)) where
         col₃ : (u : ℕ) → u < g .n → col b w₃ u ≡ col b w₂ u
         col₃ u h = m .low (b + u) (omega arith)
 
@@ -288,35 +286,41 @@ module _ (g : Graph) (b r : ℕ) where
           };
         }
 
--- THE LOOPS
-module _ (g : Graph) (b r : ℕ) (w₀ : List ℕ) (e₀ k₀ : ℕ) (w : List ℕ) (e k : ℕ) (p : Peeled g b r w₀ e₀ k₀ w e k)
-    (room : e₀ + unmarked (g .n) b r w₀ ≤ g .n) (gone : k₀ + remaining (g .n) b r w₀ ≤ g .n) where
-  pub peel-ask : (v : ℕ) → v < g .n → PeelAsk g b r v e k w
-  peel-ask v h = record { standing = p .standing; low = h; room = omega (arith, room, p .room); gone = omega (arith, gone, p .gone) }
+-- ALONG THE NEIGHBOURS OF A VERTEX
+module _ {g : Graph} {b r u e₀ k₀ : ℕ} {w₀ : List ℕ} (a : PeelAsk g b r u e₀ k₀ w₀) where
+  pub settle-none : (first g u ≤ getD w₀ u 0) × Peeled g b r w₀ e₀ k₀ w₀ e₀ k₀
+  settle-none = (omega (arith, first-at (a .standing .tables) (a .low)), peeled-none (a .standing))
 
-  -- the edges of u stand as they stood
-  module _ (u : ℕ) (l : u < g .n) (t : Tables g b w₀) (i : ℕ) (h : start (g .src) u ≤ i) (m : i < start (g .src) (suc u)) where
-    same-edge : getD w (g .n + 1 + i) 0 ≡ getD w₀ (g .n + 1 + i) 0
-    same-edge = p .inside .low (g .n + 1 + i) (omega (arith, t .below, row-last g b w₀ t u l))
+  module _ {i : ℕ} {w : List ℕ} {e k : ℕ} (z : (first g u ≤ i) × Peeled g b r w₀ e₀ k₀ w e k) (l : i < getD w₀ (u + 1) 0) where
+    pub settle-turn : Turn g i w
+    settle-turn = row-turn (a .standing .tables) (a .low) (z .0) l w (z .1 .inside .low) (omega (arith, z .1 .standing .long))
 
-    pub row-place : g .n + 1 + i < length w
-    row-place = omega (arith, t .below, row-last g b w₀ t u l, p .standing .long)
+    pub settle-ask : PeelAsk g b r (getD w (g .n + 1 + i) 0) e k w
+    settle-ask = record { standing = z .1 .standing; low = settle-turn .low; room = omega (arith, a .room, z .1 .room); gone = omega (arith, a .gone, z .1 .gone) }
 
-    pub row-number : getD w (g .n + 1 + i) 0 < edges g
-    row-number = rw same-edge (row-edge g b w₀ t u l i h m .0)
+    pub settle-step : {w' : List ℕ} {e' k' : ℕ} → Peeled g b r w e k w' e' k' → (first g u ≤ i + 1) × Peeled g b r w₀ e₀ k₀ w' e' k'
+    settle-step y = (omega (arith, z .0), peeled-more (z .1) y)
 
-    pub row-end : to g (getD w (g .n + 1 + i) 0) < g .n
-    row-end = rw same-edge (row-low g b w₀ t u l i h m)
+-- ALONG THE QUEUE
+module _ {g : Graph} {b r e₀ k₀ : ℕ} {w₀ : List ℕ} (a : DrainAsk g b r e₀ k₀ w₀) {w : List ℕ} {e k : ℕ} (p : Peeled g b r w₀ e₀ k₀ w e k) where
+  pub drain-few : k ≤ g .n
+  drain-few = omega (arith, a .gone, p .gone)
 
-  -- what has gone, at place h of the queue
-  pub gone-low : ((i : ℕ) → i < k₀ → que (g .n) b w₀ i < g .n) → (i : ℕ) → i < k → que (g .n) b w i < g .n
-  gone-low m i h = elim (decLt i k₀) as (λ _. que (g .n) b w i < g .n) [ yes l ↦ rw (p .line i l) (m i l) | no l ↦ p .behind i (omega arith) h ]
+  pub drain-ask : {h : ℕ} → h < k → PeelAsk g b r (que (g .n) b w h) e k w
+  drain-ask {h} l = record {
+    standing = p .standing;
+    low = elim (decLt h k₀) as (λ _. que (g .n) b w h < g .n) [ yes q ↦ rw (p .line h q) (a .member h q) | no q ↦ p .behind h (omega arith) l ];
+    room = omega (arith, a .room, p .room);
+    gone = omega (arith, a .gone, p .gone);
+  }
 
-  pub gone-all : k + remaining (g .n) b r w ≤ g .n
-  gone-all = omega (arith, gone, p .gone)
+-- ALONG THE LIST OF SEEDS
+module _ {g : Graph} {b r l e₀ : ℕ} {w₀ : List ℕ} (a : PassAsk g b r l e₀ w₀) {w : List ℕ} {e k : ℕ} (p : Peeled g b r w₀ e₀ 0 w e k) where
+  none-gone : k + remaining (g .n) b r w ≤ g .n
+  none-gone = omega (arith, p .gone, many-le (λ v. eqb (col b w₀ v) r) (g .n))
 
-  pub gone-few : k ≤ g .n
-  gone-few = omega (arith, gone, p .gone)
+  pub pass-ask : {i : ℕ} → i < e₀ → PeelAsk g b r (seed (g .n) b w i) e k w
+  pass-ask {i} h = record { standing = p .standing; low = rw (p .front i h) (a .member i h); room = omega (arith, a .room, p .room); gone = none-gone }
 
-  pub seed-few : e ≤ g .n
-  seed-few = omega (arith, room, p .room)
+  pub pass-drain : DrainAsk g b r e k w
+  pass-drain = record { standing = p .standing; room = omega (arith, a .room, p .room); gone = none-gone; member = λ i h. p .behind i (omega arith) h }

@@ -15,7 +15,7 @@ use Rattle.graph.proofs.Tests.{and-l, eq-T}
 use Rattle.graph.proofs.Counts.{many-le, many-mono}
 use Rattle.graph.proofs.Chains.{chain-last, valid-rev, same-low, reach-wider}
 use Rattle.graph.proofs.Decompose.{fwd-covers}
-use Rattle.index.specs.Index.{start}
+use Rattle.index.specs.Index.{first}
 use Rattle.index.proofs.Counts.{start-mono}
 use Rattle.paint.specs.Colours.{col, paint, Hit}
 use Rattle.paint.specs.Paint.{StartAsk, Searched}
@@ -34,7 +34,7 @@ use Rattle.parts.proofs.Splitting.{tables-kept}
 use Rattle.slices.proofs.Peeling.{inside-none, inside-more}
 
 -- THE LOOP
-module _ (g : Graph) (b r top : ℕ) (w : List ℕ) (a : CutsAsk g b r top w) where
+module _ {g : Graph} {b r top : ℕ} {w : List ℕ} (a : CutsAsk g b r top w) where
   pub cuts-none : Cuts g b r top w 0 1 top w
   cuts-none = record {
     listing = a .listing;
@@ -46,14 +46,14 @@ module _ (g : Graph) (b r top : ℕ) (w : List ℕ) (a : CutsAsk g b r top w) wh
     inside = inside-none (g .n) b w;
   }
 
-  module _ (l e s : ℕ) (x : List ℕ) (z : Cuts g b r top w l e s x) (h : l < e) where
+  module _ {l e s : ℕ} {x : List ℕ} (z : Cuts g b r top w l e s x) (h : l < e) where
     pub cuts-pass : PassAsk g b r l e x
     cuts-pass = let y = z .listing in record { standing = y .standing; order = y .order; room = y .room; member = y .member }
 
     pub cuts-few : e ≤ g .n
     cuts-few = omega (arith, z .listing .room)
 
-    module _ (x₁ : List ℕ) (m k : ℕ) (p : Peeled g b r x e 0 x₁ m k) where
+    module _ {x₁ : List ℕ} {m k : ℕ} (p : Peeled g b r x e 0 x₁ m k) where
       rest₁ : (v : ℕ) → v < g .n → col b x₁ v ≡ r → col b x v ≡ r
       rest₁ v i c = ⊎-elim (λ t. sym t ∙ c) (λ t. t .0) (p .went v i)
 
@@ -76,8 +76,8 @@ module _ (g : Graph) (b r top : ℕ) (w : List ℕ) (a : CutsAsk g b r top w) wh
         under = omega (arith, z .most, cuts-few, h, a .under);
       }
 
-      pub cuts-step : (x₂ : List ℕ) (e' : ℕ) → Cut g b r s x₁ m x₂ e' → Cuts g b r top w m e' (s + 1) x₂
-      cuts-step x₂ e' d = record {
+      pub cuts-step : {x₂ : List ℕ} {e' : ℕ} → Cut g b r s x₁ m x₂ e' → Cuts g b r top w m e' (s + 1) x₂
+      cuts-step {x₂} {e'} d = record {
         listing = d .listing;
         went = λ v i. ⊎-elim
             (λ t. ⊎-elim
@@ -105,8 +105,8 @@ module _ (g : Graph) (b r top : ℕ) (w : List ℕ) (a : CutsAsk g b r top w) wh
         inside = inside-more (z .inside) (inside-more (p .inside) (d .inside));
       }
 
-  pub cuts-all : (l e s : ℕ) (x : List ℕ) → Cuts g b r top w l e s x → e ≤ l → Done g b r top w x s
-  cuts-all l e s x z h = record {
+  pub cuts-all : {l e s : ℕ} {x : List ℕ} → Cuts g b r top w l e s x → e ≤ l → Done g b r top w x s
+  cuts-all {l} {e} {s} {x} z h = record {
     places = l;
     seeds = e;
     cuts = z;
@@ -129,7 +129,7 @@ many-apart f h k (suc n) p q = go (f n) (h n) (k n) (p n (omega arith)) (q n (om
     go false false false x y z = omega arith
 
 -- THE PIVOT
-module _ (g : Graph) (b p q top r : ℕ) (w : List ℕ) (a : SliceAsk g b p q top w) (rest : r ≡ 5 * g .n + 5) (cs : (e : ℕ) → g .counted e ≡ true) where
+module _ {g : Graph} {b p q top r : ℕ} {w : List ℕ} (a : SliceAsk g b p q top w) (rest : r ≡ 5 * g .n + 5) where
   ok : Valid g
   ok = a .tables .valid
 
@@ -146,7 +146,7 @@ module _ (g : Graph) (b p q top r : ℕ) (w : List ℕ) (a : SliceAsk g b p q to
   pub slice-start : StartAsk g (paint q r q r) 0 b p w
   slice-start = record {
     ask = record {
-      laid = record { valid = ok; counts = cs; few = a .tables .few; below = omega (arith, a .tables .below); index = a .tables .fwd };
+      laid = record { valid = ok; few = a .tables .few; below = omega (arith, a .tables .below); index = a .tables .fwd };
       small = a .tables .small;
       fits = omega (arith, a .long);
       still = paint-still q r q r (omega (arith, q-r)) (omega (arith, q-r)) (omega (arith, q-r)) (omega (arith, q-r));
@@ -154,7 +154,7 @@ module _ (g : Graph) (b p q top r : ℕ) (w : List ℕ) (a : SliceAsk g b p q to
     start = a .start;
   }
 
-  module _ (w₁ : List ℕ) (k seen : ℕ) (f : Searched g (paint q r q r) b (only p) w w₁ k seen) where
+  module _ {w₁ : List ℕ} {k seen : ℕ} (f : Searched g (paint q r q r) b (only p) w w₁ k seen) where
     abbrev A : Part
     A v = (v < g .n) × (col b w v ≡ q)
 
@@ -200,7 +200,7 @@ module _ (g : Graph) (b p q top r : ℕ) (w : List ℕ) (a : SliceAsk g b p q to
     pub slice-mark : MarkAsk (g .n) b p r 0 w₁
     slice-mark = record { low = a .start; small = a .tables .small; long = omega (arith, a .long, f .kept .long); room = λ h t. omega (arith, a .start) }
 
-    module _ (w₂ : List ℕ) (e₁ : ℕ) (mk : Mark (g .n) b p r 0 w₁ w₂ e₁) where
+    module _ {w₂ : List ℕ} {e₁ : ℕ} (mk : Mark (g .n) b p r 0 w₁ w₂ e₁) where
       m : Marked (g .n) b r w₁ 0 w₂ e₁ (λ v. v ≡ p)
       m = mark-step (g .n) b r w₁ 0 p slice-mark w₂ e₁ mk
 
@@ -227,16 +227,16 @@ module _ (g : Graph) (b p q top r : ℕ) (w : List ℕ) (a : SliceAsk g b p q to
       tables₂ : Tables g b w₂
       tables₂ = tables-kept g b w w₂ low₂ (a .tables)
 
-      first : (v : ℕ) → v < g .n → col b w₂ v ≡ r → cur (into g b) w₂ v ≡ start (g .tgt) v
-      first v h c = cur₂ v h ∙ a .untouched v h (was v h (sym (col₂ v h) ∙ c) .1) .1
+      begins : (v : ℕ) → v < g .n → col b w₂ v ≡ r → cur (into g b) w₂ v ≡ first (rev g) v
+      begins v h c = cur₂ v h ∙ a .untouched v h (was v h (sym (col₂ v h) ∙ c) .1) .1
 
       side₂ : Side (rev g) (g .n + 1 + edges g) (into g b) b r w₂
       side₂ = record {
-        laid = record { valid = valid-rev ok; counts = cs; few = omega (arith, a .tables .few, ok .same); below = omega (arith, a .tables .below, ok .same); index = tables₂ .bwd };
+        laid = record { valid = valid-rev ok; few = a .tables .few; below = omega (arith, a .tables .below); index = tables₂ .bwd };
         cursors = record {
-          least = λ v h c. omega (arith, first v h c);
-          most = λ v h c. omega (arith, first v h c, start-mono (g .tgt) v (suc v) (omega arith));
-          passed = λ v j h c x y. absurd (omega (arith, x, y, first v h c));
+          least = λ v h c. omega (arith, begins v h c);
+          most = λ v h c. omega (arith, begins v h c, start-mono (g .counted) (g .tgt) (edges g) v (suc v) (omega arith));
+          passed = λ v j h c x y. absurd (omega (arith, x, y, begins v h c));
         };
       }
 
@@ -273,7 +273,7 @@ module _ (g : Graph) (b p q top r : ℕ) (w : List ℕ) (a : SliceAsk g b p q to
         under = omega (arith, a .room, rest);
       }
 
-      module _ (w₃ : List ℕ) (s : ℕ) (d : Done g b r top w₂ w₃ s) where
+      module _ {w₃ : List ℕ} {s : ℕ} (d : Done g b r top w₂ w₃ s) where
         z : Cuts g b r top w₂ (d .places) (d .seeds) s w₃
         z = d .cuts
 
@@ -329,8 +329,8 @@ module _ (g : Graph) (b p q top r : ℕ) (w : List ℕ) (a : SliceAsk g b p q to
         }
 
         -- the set that loses what p reaches is what is left of the part
-        pub slice-marks : (ws : List ℕ) (size : ℕ) → Marks (g .n) b q w ws size → (ws₁ : List ℕ) (left : ℕ) → Erased (g .n) b w₁ k ws ws₁ left → Marks (g .n) b q w₃ ws₁ left
-        slice-marks ws size y ws₁ left er = record {
+        pub slice-marks : {ws ws₁ : List ℕ} {size left : ℕ} → Marks (g .n) b q w ws size → Erased (g .n) b w₁ k ws ws₁ left → Marks (g .n) b q w₃ ws₁ left
+        slice-marks {ws} {ws₁} {size} {left} y er = record {
           words = er .long ∙ y .words;
           bits = λ v h. ⊎-elim
               (λ t. let (i, x, e) = f .listed v h (t .0) in
@@ -344,9 +344,9 @@ module _ (g : Graph) (b p q top r : ℕ) (w : List ℕ) (a : SliceAsk g b p q to
         }
 
 -- what a search has painted is taken out of the set
-pub slice-erase : (g : Graph) (b p q top r : ℕ) (w : List ℕ) → SliceAsk g b p q top w → (w₁ : List ℕ) (k seen : ℕ) → Searched g (paint q r q r) b (only p) w w₁ k seen
-    → (ws : List ℕ) (size : ℕ) → Marks (g .n) b q w ws size → EraseAsk (g .n) b w₁ k ws size
-slice-erase g b p q top r w a w₁ k seen s ws size z = record {
+pub slice-erase : (r : ℕ) {g : Graph} {b p q top : ℕ} {w w₁ : List ℕ} {k seen : ℕ} → SliceAsk g b p q top w → Searched g (paint q r q r) b (only p) w w₁ k seen
+    → {ws : List ℕ} {size : ℕ} → Marks (g .n) b q w ws size → EraseAsk (g .n) b w₁ k ws size
+slice-erase r a s z = record {
   queued = record { member = λ i h. s .member i h .0; few = s .few; small = a .tables .small; fits = omega (arith, a .long, s .kept .long) };
   words = z .words;
   size = z .size;

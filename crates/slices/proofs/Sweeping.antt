@@ -95,10 +95,6 @@ module _ {g : Graph} {b q kind state top : ℕ} {w : List ℕ} (u : Uncut g b q 
   slicings-few unsliced = omega arith
   slicings-few (taken p s h c e d) = omega (arith, slicings-few s, sliced-less h c d)
 
-  pub slicings-others : {k t : ℕ} {w' : List ℕ} → Slicings g b q kind state top w k t w' → (v : ℕ) → v < g .n → (col b w v ≡ q → ⊥) → col b w' v ≡ col b w v
-  slicings-others unsliced v h o = refl
-  slicings-others (taken p s x c e d) v h o = let y = slicings-others s v h o in d .others v h (λ z. o (sym y ∙ z)) ∙ y
-
   -- a vertex of the part is still in it, has its label as a component alone, or is in one of the slices
   pub slicings-ours : q < top → {k t : ℕ} {w' : List ℕ} → Slicings g b q kind state top w k t w' → (v : ℕ) → v < g .n → col b w v ≡ q
       → (col b w' v ≡ q) ⊎ (((col b w' v ≡ v) × Alone g v) ⊎ ((top ≤ col b w' v) × (col b w' v < t)))
@@ -122,11 +118,11 @@ pub record Sweeping (g : Graph) (b q top : ℕ) (w₀ : List ℕ) (i : ℕ) (w :
   pub slicings : Slicings g b q 0 0 top w₀ pivots t w
   pub gone : (j : ℕ) → j < i → own (g .n) b w j ≡ q → ⊥
 
-module _ (g : Graph) (b q top : ℕ) (w₀ : List ℕ) (u : Uncut g b q top w₀) where
+module _ {g : Graph} {b q top : ℕ} {w₀ : List ℕ} (u : Uncut g b q top w₀) where
   pub sweep-none : Sweeping g b q top w₀ 0 w₀ top
   sweep-none = record { pivots = 0; slicings = unsliced; gone = λ j h. absurd (omega arith) }
 
-  module _ (i : ℕ) (w : List ℕ) (t : ℕ) (z : Sweeping g b q top w₀ i w t) where
+  module _ {i : ℕ} {w : List ℕ} {t : ℕ} (z : Sweeping g b q top w₀ i w t) where
     pub sweep-long : length w ≡ length w₀
     sweep-long = slicings-inside u (z .slicings) .long
 
@@ -145,8 +141,8 @@ module _ (g : Graph) (b q top : ℕ) (w₀ : List ℕ) (u : Uncut g b q top w₀
           ] in
           ap (ord (g .n) b w) (sym s)
 
-      pub sweep-step : (w' : List ℕ) (t' : ℕ) → Turned g b i q t w w' t' → Sweeping g b q top w₀ (i + 1) w' t'
-      sweep-step w' t' (inl (c, d)) =
+      pub sweep-step : {w' : List ℕ} {t' : ℕ} → Turned g b i q t w w' t' → Sweeping g b q top w₀ (i + 1) w' t'
+      sweep-step {w'} {t'} (inl (c, d)) =
           let p : Placed (g .n) b w = slicings-uncut u (z .slicings) .placed in
           let same : (j : ℕ) → ord (g .n) b w' j ≡ ord (g .n) b w j = λ j. d .inside .high (b + 9 * g .n + 2 + j) (omega arith) in
           record {
@@ -158,7 +154,7 @@ module _ (g : Graph) (b q top : ℕ) (w₀ : List ℕ) (u : Uncut g b q top w₀
                   absurd (o (sym (d .others (ord (g .n) b w j) (p .low j (omega arith)) o) ∙ ap (col b w') (sym (same j)) ∙ e)))
             ];
           }
-      sweep-step w' t' (inr (c, e, d)) = rw (e, d) (record {
+      sweep-step {w'} {t'} (inr (c, e, d)) = rw (e, d) (record {
         pivots = z .pivots;
         slicings = z .slicings;
         gone = λ j l y. elim (ℕ-discrete j i) as (λ _. ⊥) [ yes m ↦ c (ap (own (g .n) b w) (sym m) ∙ y) | no m ↦ z .gone j (omega arith) y ];

@@ -5,10 +5,10 @@ use mathlib.Core.List.{List}
 use mathlib.Core.Logic.{_⊎_}
 use lib.ListN.{length}
 use lib.Dec.{eqb}
-use Rattle.graph.specs.Graph.{Graph, Part}
+use Rattle.graph.specs.Graph.{Graph, Part, rev}
 use Rattle.graph.specs.Parts.{Alone}
 use Rattle.graph.specs.Numbers.{many}
-use Rattle.index.specs.Index.{start}
+use Rattle.index.specs.Index.{first}
 use Rattle.paint.specs.Colours.{col}
 use Rattle.trim.specs.Cursor.{cur}
 use Rattle.parts.specs.State.{Tables, Owned}
@@ -69,7 +69,7 @@ held n b q w = many (λ v. eqb (col b w v) q) n
 
 -- no vertex of the colour q has been looked at
 abbrev pub Untouched : Graph → ℕ → ℕ → List ℕ → Type 0
-Untouched g b q w = (v : ℕ) → v < g .n → col b w v ≡ q → (flag (g .n) b w v ≡ 0) × (cur (into g b) w v ≡ start (g .tgt) v)
+Untouched g b q w = (v : ℕ) → v < g .n → col b w v ≡ q → (flag (g .n) b w v ≡ 0) × (cur (into g b) w v ≡ first (rev g) v)
 
 -- p is a vertex of the part q; top and all above it are no colours yet
 pub record SliceAsk (g : Graph) (b p q top : ℕ) (w : List ℕ) : Type 0 where

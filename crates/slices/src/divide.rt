@@ -1,6 +1,5 @@
 // Method 1 on the whole collection: it is swept by pivots of a kind, and its slices are handed out.
-ghost use mathlib.Core.Path.{_≡_};
-ghost use Rattle.graph.specs.Graph.{graph};
+ghost use Rattle.graph.specs.Arrows.{SomeOf, EveryOf};
 ghost use Rattle.slices.specs.Divide.{KindAsk, KindSwept, WholeAsk, Division};
 use crate::drawn;
 use crate::sweep;
@@ -10,9 +9,8 @@ use parts::share;
 
 // The part q, whose chain begins at place h, is swept by pivots of the kind.
 fn swept(
-    sources: &[u32],
-    targets: &[u32],
     n: usize,
+    m: usize,
     w: &mut [u32],
     words: &mut [u64],
     b: usize,
@@ -22,14 +20,14 @@ fn swept(
     q: u32,
     top: usize,
 ) -> Outcome
-    requires { ⌜ KindAsk (graph n (now sources) (now targets)) b h q top (now w) (now words) ⌝ }
-    ensures { λ r. ⌜ KindSwept (graph n (now (sources .entry)) (now (targets .entry))) b q kind state top (now (w .entry)) (now (words .entry)) (now (w .exit)) (now (words .exit)) (r .state) (r .draws) (r .top) ⌝ }
+    requires { ⌜ SomeOf n m (λ g. KindAsk g b h q top (now w) (now words)) ⌝ }
+    ensures { λ r. ⌜ EveryOf n m (λ g. KindAsk g b h q top (now (w .entry)) (now (words .entry)) → KindSwept g b q kind state top (now (w .entry)) (now (words .entry)) (now (w .exit)) (now (words .exit)) (r .state) (r .draws) (r .top)) ⌝ }
 {
     if kind == 1 {
         let k = (n + 63) / 64;
-        return drawn::sweep(sources, targets, n, w, &mut words[..k], b, h, q, state, top);
+        return drawn::sweep(n, m, w, &mut words[..k], b, h, q, state, top);
     }
-    let t = sweep::sweep(sources, targets, n, w, b, q, top);
+    let t = sweep::sweep(n, m, w, b, q, top);
     Outcome {
         state: state,
         draws: 0,
@@ -39,9 +37,8 @@ fn swept(
 
 // The whole collection is divided. The first places of its slices stand from b + 8 n + 2 on.
 pub fn divide(
-    sources: &[u32],
-    targets: &[u32],
     n: usize,
+    m: usize,
     w: &mut [u32],
     words: &mut [u64],
     b: usize,
@@ -49,23 +46,11 @@ pub fn divide(
     state: u32,
     top: usize,
 ) -> Divided
-    requires { ⌜ WholeAsk (graph n (now sources) (now targets)) b top (now w) (now words) ⌝ }
-    ensures { λ r. ⌜ Division (graph n (now (sources .entry)) (now (targets .entry))) b kind state top (now (w .entry)) (now (words .entry)) (now (w .exit)) (now (words .exit)) (r .state) (r .draws) (r .top) (r .children) ⌝ }
+    requires { ⌜ SomeOf n m (λ g. WholeAsk g b top (now w) (now words)) ⌝ }
+    ensures { λ r. ⌜ EveryOf n m (λ g. WholeAsk g b top (now (w .entry)) (now (words .entry)) → Division g b kind state top (now (w .entry)) (now (words .entry)) (now (w .exit)) (now (words .exit)) (r .state) (r .draws) (r .top) (r .children)) ⌝ }
 {
-    sweep::prepare(n, sources.len(), w, b);
-    let s = swept(
-        sources,
-        targets,
-        n,
-        w,
-        words,
-        b,
-        kind,
-        state,
-        0,
-        n as u32,
-        top,
-    );
+    sweep::prepare(n, m, w, b);
+    let s = swept(n, m, w, words, b, kind, state, 0, n as u32, top);
     let k = share::share(n, w, b, top, s.top, 0);
     Divided {
         state: s.state,

@@ -1,6 +1,5 @@
 // Method 1 on the whole collection by drawn pivots. What remains is kept as bits, so that the vertex at a place is found by counts of ones.
-ghost use mathlib.Core.Path.{_≡_};
-ghost use Rattle.graph.specs.Graph.{graph};
+ghost use Rattle.graph.specs.Arrows.{SomeOf, EveryOf};
 ghost use Rattle.slices.specs.Drawn.{DrawAsk, Drawn, RunAsk, DrawnAsk, SweptDrawn};
 use crate::seeds;
 use crate::slice;
@@ -15,9 +14,8 @@ struct Step {
 
 // `slice::slice` at the vertex drawn from what is left, where the set loses what the pivot reaches.
 fn turn(
-    sources: &[u32],
-    targets: &[u32],
     n: usize,
+    m: usize,
     w: &mut [u32],
     words: &mut [u64],
     b: usize,
@@ -26,16 +24,16 @@ fn turn(
     top: usize,
     left: usize,
 ) -> Step
-    requires { ⌜ DrawAsk (graph n (now sources) (now targets)) b q top (now w) (now words) left ⌝ }
-    ensures { λ r. ⌜ Drawn (graph n (now (sources .entry)) (now (targets .entry))) b q state top (now (w .entry)) left (now (w .exit)) (now (words .exit)) (r .state) (r .left) (r .top) ⌝ }
+    requires { ⌜ SomeOf n m (λ g. DrawAsk g b q top (now w) (now words) left) ⌝ }
+    ensures { λ r. ⌜ EveryOf n m (λ g. DrawAsk g b q top (now (w .entry)) (now (words .entry)) left → Drawn g b q state top (now (w .entry)) left (now (w .exit)) (now (words .exit)) (r .state) (r .left) (r .top)) ⌝ }
 {
     let s = pivot::chooser::next(state);
     let p = pivot::place::select(words, n, s as usize % left);
     let r = (5 * n + 5) as u32;
-    let f = paint::search(sources, targets, n, w, 0, b, p, q, r, q, r);
+    let f = paint::search(n, w, 0, b, p, q, r, q, r);
     let l = drawn::erase(n, w, words, b, f.k, left);
     seeds::mark(n, w, b, p, r, 0);
-    let t = slice::cuts(sources, targets, n, w, b, r, top);
+    let t = slice::cuts(n, m, w, b, r, top);
     Step {
         state: s,
         left: l,
@@ -45,9 +43,8 @@ fn turn(
 
 // Draws, until nothing is left of the part q.
 fn run(
-    sources: &[u32],
-    targets: &[u32],
     n: usize,
+    m: usize,
     w: &mut [u32],
     words: &mut [u64],
     b: usize,
@@ -56,15 +53,15 @@ fn run(
     top0: usize,
     size: usize,
 ) -> drawn::Outcome
-    requires { ⌜ RunAsk (graph n (now sources) (now targets)) b q top0 (now w) (now words) size ⌝ }
-    ensures { λ r. ⌜ SweptDrawn (graph n (now (sources .entry)) (now (targets .entry))) b q state0 top0 (now (w .entry)) (now (w .exit)) (now (words .exit)) (r .state) (r .draws) (r .top) ⌝ }
+    requires { ⌜ SomeOf n m (λ g. RunAsk g b q top0 (now w) (now words) size) ⌝ }
+    ensures { λ r. ⌜ EveryOf n m (λ g. RunAsk g b q top0 (now (w .entry)) (now (words .entry)) size → SweptDrawn g b q state0 top0 (now (w .entry)) (now (w .exit)) (now (words .exit)) (r .state) (r .draws) (r .top)) ⌝ }
 {
     let mut state = state0;
     let mut draws: usize = 0;
     let mut top = top0;
     let mut left = size;
     while 0 < left {
-        let t = turn(sources, targets, n, w, words, b, q, state, top, left);
+        let t = turn(n, m, w, words, b, q, state, top, left);
         state = t.state;
         left = t.left;
         top = t.top;
@@ -79,9 +76,8 @@ fn run(
 
 // The part q, whose chain begins at place h, is swept by pivots of kind 1.
 pub fn sweep(
-    sources: &[u32],
-    targets: &[u32],
     n: usize,
+    m: usize,
     w: &mut [u32],
     words: &mut [u64],
     b: usize,
@@ -90,9 +86,9 @@ pub fn sweep(
     state: u32,
     top: usize,
 ) -> drawn::Outcome
-    requires { ⌜ DrawnAsk (graph n (now sources) (now targets)) b h q top (now w) (now words) ⌝ }
-    ensures { λ r. ⌜ SweptDrawn (graph n (now (sources .entry)) (now (targets .entry))) b q state top (now (w .entry)) (now (w .exit)) (now (words .exit)) (r .state) (r .draws) (r .top) ⌝ }
+    requires { ⌜ SomeOf n m (λ g. DrawnAsk g b h q top (now w) (now words)) ⌝ }
+    ensures { λ r. ⌜ EveryOf n m (λ g. DrawnAsk g b h q top (now (w .entry)) (now (words .entry)) → SweptDrawn g b q state top (now (w .entry)) (now (w .exit)) (now (words .exit)) (r .state) (r .draws) (r .top)) ⌝ }
 {
     let k = drawn::mark(n, w, words, b, h, q);
-    run(sources, targets, n, w, words, b, q, state, top, k)
+    run(n, m, w, words, b, q, state, top, k)
 }

@@ -1,6 +1,5 @@
 // Peeling: a seed that no edge of what remains enters is a component alone and goes; its successors become seeds.
-ghost use mathlib.Core.Path.{_≡_};
-ghost use Rattle.graph.specs.Graph.{graph};
+ghost use Rattle.graph.specs.Arrows.{SomeOf, EveryOf};
 ghost use Rattle.slices.specs.Peel.{PeelAsk, Peeled, DrainAsk, PassAsk};
 use crate::seeds;
 use trim::cursor;
@@ -13,9 +12,8 @@ pub struct Count {
 
 // v goes, if it remains and no edge of what remains enters it.
 fn settle(
-    sources: &[u32],
-    targets: &[u32],
     n: usize,
+    m: usize,
     w: &mut [u32],
     b: usize,
     v: usize,
@@ -23,18 +21,18 @@ fn settle(
     e: usize,
     k: usize,
 ) -> Count
-    requires { ⌜ PeelAsk (graph n (now sources) (now targets)) b r v e k (now w) ⌝ }
-    ensures { λ c. ⌜ Peeled (graph n (now (sources .entry)) (now (targets .entry))) b r (now (w .entry)) e k (now (w .exit)) (c .seeds) (c .gone) ⌝ }
+    requires { ⌜ SomeOf n m (λ g. PeelAsk g b r v e k (now w)) ⌝ }
+    ensures { λ c. ⌜ EveryOf n m (λ g. PeelAsk g b r v e k (now (w .entry)) → Peeled g b r (now (w .entry)) e k (now (w .exit)) (c .seeds) (c .gone)) ⌝ }
 {
     if w[b + v] != r {
         return Count { seeds: e, gone: k };
     }
-    if cursor::advance(n, sources, w, n + 1 + sources.len(), b + 6 * n + 2, b, v, r) != 0 {
+    if cursor::advance(n, w, n + 1 + m, b + 6 * n + 2, b, v, r) != 0 {
         return Count { seeds: e, gone: k };
     }
     w[b + v] = v as u32;
     w[b + n + k] = v as u32;
-    let more = seeds::mark_next(sources, targets, n, w, b, v, r, e);
+    let more = seeds::mark_next(n, w, b, v, r, e);
     Count {
         seeds: more,
         gone: k + 1,
@@ -43,9 +41,8 @@ fn settle(
 
 // The successors of u are looked at again.
 fn settle_next(
-    sources: &[u32],
-    targets: &[u32],
     n: usize,
+    m: usize,
     w: &mut [u32],
     b: usize,
     u: usize,
@@ -53,17 +50,16 @@ fn settle_next(
     e0: usize,
     k0: usize,
 ) -> Count
-    requires { ⌜ PeelAsk (graph n (now sources) (now targets)) b r u e0 k0 (now w) ⌝ }
-    ensures { λ c. ⌜ Peeled (graph n (now (sources .entry)) (now (targets .entry))) b r (now (w .entry)) e0 k0 (now (w .exit)) (c .seeds) (c .gone) ⌝ }
+    requires { ⌜ SomeOf n m (λ g. PeelAsk g b r u e0 k0 (now w)) ⌝ }
+    ensures { λ c. ⌜ EveryOf n m (λ g. PeelAsk g b r u e0 k0 (now (w .entry)) → Peeled g b r (now (w .entry)) e0 k0 (now (w .exit)) (c .seeds) (c .gone)) ⌝ }
 {
     let mut i = w[u] as usize;
     let t = w[u + 1] as usize;
     let mut e = e0;
     let mut k = k0;
     while i < t {
-        let a = w[n + 1 + i] as usize;
-        let y = targets[a] as usize;
-        let c = settle(sources, targets, n, w, b, y, r, e, k);
+        let y = w[n + 1 + i] as usize;
+        let c = settle(n, m, w, b, y, r, e, k);
         e = c.seeds;
         k = c.gone;
         i += 1;
@@ -72,25 +68,16 @@ fn settle_next(
 }
 
 // The successors of all that has gone are looked at again, until no more goes. How many seeds are listed.
-fn drain(
-    sources: &[u32],
-    targets: &[u32],
-    n: usize,
-    w: &mut [u32],
-    b: usize,
-    r: u32,
-    e0: usize,
-    k0: usize,
-) -> Count
-    requires { ⌜ DrainAsk (graph n (now sources) (now targets)) b r e0 k0 (now w) ⌝ }
-    ensures { λ c. ⌜ Peeled (graph n (now (sources .entry)) (now (targets .entry))) b r (now (w .entry)) e0 k0 (now (w .exit)) (c .seeds) (c .gone) ⌝ }
+fn drain(n: usize, m: usize, w: &mut [u32], b: usize, r: u32, e0: usize, k0: usize) -> Count
+    requires { ⌜ SomeOf n m (λ g. DrainAsk g b r e0 k0 (now w)) ⌝ }
+    ensures { λ c. ⌜ EveryOf n m (λ g. DrainAsk g b r e0 k0 (now (w .entry)) → Peeled g b r (now (w .entry)) e0 k0 (now (w .exit)) (c .seeds) (c .gone)) ⌝ }
 {
     let mut h = 0;
     let mut e = e0;
     let mut k = k0;
     while h < k {
         let u = w[b + n + h] as usize;
-        let c = settle_next(sources, targets, n, w, b, u, r, e, k);
+        let c = settle_next(n, m, w, b, u, r, e, k);
         e = c.seeds;
         k = c.gone;
         h += 1;
@@ -99,25 +86,16 @@ fn drain(
 }
 
 // The seeds at the places l .. e0 - 1 of the list are looked at once.
-fn pass(
-    sources: &[u32],
-    targets: &[u32],
-    n: usize,
-    w: &mut [u32],
-    b: usize,
-    r: u32,
-    l: usize,
-    e0: usize,
-) -> Count
-    requires { ⌜ PassAsk (graph n (now sources) (now targets)) b r l e0 (now w) ⌝ }
-    ensures { λ c. ⌜ Peeled (graph n (now (sources .entry)) (now (targets .entry))) b r (now (w .entry)) e0 0 (now (w .exit)) (c .seeds) (c .gone) ⌝ }
+fn pass(n: usize, m: usize, w: &mut [u32], b: usize, r: u32, l: usize, e0: usize) -> Count
+    requires { ⌜ SomeOf n m (λ g. PassAsk g b r l e0 (now w)) ⌝ }
+    ensures { λ c. ⌜ EveryOf n m (λ g. PassAsk g b r l e0 (now (w .entry)) → Peeled g b r (now (w .entry)) e0 0 (now (w .exit)) (c .seeds) (c .gone)) ⌝ }
 {
     let mut i = l;
     let mut e = e0;
     let mut k = 0;
     while i < e0 {
         let v = w[b + 8 * n + 2 + i] as usize;
-        let c = settle(sources, targets, n, w, b, v, r, e, k);
+        let c = settle(n, m, w, b, v, r, e, k);
         e = c.seeds;
         k = c.gone;
         i += 1;
@@ -126,19 +104,10 @@ fn pass(
 }
 
 // Seeds go until none can. How many seeds are listed.
-pub fn peel(
-    sources: &[u32],
-    targets: &[u32],
-    n: usize,
-    w: &mut [u32],
-    b: usize,
-    r: u32,
-    l: usize,
-    e: usize,
-) -> Count
-    requires { ⌜ PassAsk (graph n (now sources) (now targets)) b r l e (now w) ⌝ }
-    ensures { λ c. ⌜ Peeled (graph n (now (sources .entry)) (now (targets .entry))) b r (now (w .entry)) e 0 (now (w .exit)) (c .seeds) (c .gone) ⌝ }
+pub fn peel(n: usize, m: usize, w: &mut [u32], b: usize, r: u32, l: usize, e: usize) -> Count
+    requires { ⌜ SomeOf n m (λ g. PassAsk g b r l e (now w)) ⌝ }
+    ensures { λ c. ⌜ EveryOf n m (λ g. PassAsk g b r l e (now (w .entry)) → Peeled g b r (now (w .entry)) e 0 (now (w .exit)) (c .seeds) (c .gone)) ⌝ }
 {
-    let c = pass(sources, targets, n, w, b, r, l, e);
-    drain(sources, targets, n, w, b, r, c.seeds, c.gone)
+    let c = pass(n, m, w, b, r, l, e);
+    drain(n, m, w, b, r, c.seeds, c.gone)
 }

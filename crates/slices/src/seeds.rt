@@ -1,6 +1,5 @@
 // Seeds of what remains, which has the colour r: each is marked once, and listed.
-ghost use mathlib.Core.Path.{_≡_};
-ghost use Rattle.graph.specs.Graph.{graph};
+ghost use Rattle.graph.specs.Arrows.{Some, Every};
 ghost use Rattle.slices.specs.Seeds.{MarkAsk, Mark, Marked, Next, NextAsk, Behind, AllAsk};
 
 // y becomes a seed, if it is in what remains and never was one. The new number of seeds.
@@ -20,25 +19,15 @@ pub fn mark(n: usize, w: &mut [u32], b: usize, y: usize, r: u32, e: usize) -> us
 }
 
 // The successors of v become seeds.
-pub fn mark_next(
-    sources: &[u32],
-    targets: &[u32],
-    n: usize,
-    w: &mut [u32],
-    b: usize,
-    v: usize,
-    r: u32,
-    e0: usize,
-) -> usize
-    requires { ⌜ NextAsk (graph n (now sources) (now targets)) b r v e0 (now w) ⌝ }
-    ensures { λ e'. ⌜ Marked n b r (now (w .entry)) e0 (now (w .exit)) e' (Next (graph n (now (sources .entry)) (now (targets .entry))) v) ⌝ }
+pub fn mark_next(n: usize, w: &mut [u32], b: usize, v: usize, r: u32, e0: usize) -> usize
+    requires { ⌜ Some n (λ g. NextAsk g b r v e0 (now w)) ⌝ }
+    ensures { λ e'. ⌜ Every n (λ g. NextAsk g b r v e0 (now (w .entry)) → Marked n b r (now (w .entry)) e0 (now (w .exit)) e' (Next g v)) ⌝ }
 {
     let mut i = w[v] as usize;
     let t = w[v + 1] as usize;
     let mut e = e0;
     while i < t {
-        let a = w[n + 1 + i] as usize;
-        let y = targets[a] as usize;
+        let y = w[n + 1 + i] as usize;
         e = mark(n, w, b, y, r, e);
         i += 1;
     }
@@ -46,24 +35,15 @@ pub fn mark_next(
 }
 
 // The successors of the first k of the queue become seeds.
-pub fn mark_all(
-    sources: &[u32],
-    targets: &[u32],
-    n: usize,
-    w: &mut [u32],
-    b: usize,
-    k: usize,
-    r: u32,
-    e0: usize,
-) -> usize
-    requires { ⌜ AllAsk (graph n (now sources) (now targets)) b r k e0 (now w) ⌝ }
-    ensures { λ e'. ⌜ Marked n b r (now (w .entry)) e0 (now (w .exit)) e' (Behind (graph n (now (sources .entry)) (now (targets .entry))) b (now (w .entry)) k) ⌝ }
+pub fn mark_all(n: usize, w: &mut [u32], b: usize, k: usize, r: u32, e0: usize) -> usize
+    requires { ⌜ Some n (λ g. AllAsk g b r k e0 (now w)) ⌝ }
+    ensures { λ e'. ⌜ Every n (λ g. AllAsk g b r k e0 (now (w .entry)) → Marked n b r (now (w .entry)) e0 (now (w .exit)) e' (Behind g b (now (w .entry)) k)) ⌝ }
 {
     let mut i = 0;
     let mut e = e0;
     while i < k {
         let v = w[b + n + i] as usize;
-        e = mark_next(sources, targets, n, w, b, v, r, e);
+        e = mark_next(n, w, b, v, r, e);
         i += 1;
     }
     e

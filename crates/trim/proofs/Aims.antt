@@ -7,7 +7,7 @@ use mathlib.Core.List.{List}
 use lib.ListN.{length, getD, set, length-set}
 use lib.Seq.{getD-set-same, getD-set-other}
 use Rattle.graph.specs.Graph.{Graph, rev, edges}
-use Rattle.index.specs.Index.{start}
+use Rattle.index.specs.Index.{first}
 use Rattle.index.proofs.Counts.{start-mono}
 use Rattle.paint.specs.Colours.{col}
 use Rattle.paint.specs.Paint.{Laid}
@@ -94,7 +94,7 @@ module _ {n m b h q : ℕ} {w₀ : List ℕ} (a : AimAsk n m b h q w₀) {i : �
 -- cursors that were set to the first edges
 module _ {g : Graph} {b h q : ℕ} {w : List ℕ} (a : TrimAsk g b h q w) where
   pub trim-aim : AimAsk (g .n) (edges g) b h q w
-  trim-aim = record { chain = a .chain; below = omega (arith, a .bwd .below, a .fwd .valid .same); long = a .long; small = a .small }
+  trim-aim = record { chain = a .chain; below = omega (arith, a .bwd .below); long = a .long; small = a .small }
 
   module _ {w' : List ℕ} (z : Aimed (g .n) (edges g) b q (g .n) w w') where
     same-col : (v : ℕ) → v < g .n → col b w' v ≡ col b w v
@@ -104,10 +104,10 @@ module _ {g : Graph} {b h q : ℕ} {w : List ℕ} (a : TrimAsk g b h q w) where
     each : (P : ℕ → Type 0) → ((j : ℕ) → j < g .n → own (g .n) b w j ≡ q → P (ord (g .n) b w j)) → (v : ℕ) → v < g .n → col b w v ≡ q → P v
     each P f v l p = let (j, t, e) = a .chain .placed .all v l in rw e at (f j t (ap (col b w) e ∙ p))
 
-    first-cursors : (d : Graph) (ix cb : ℕ) → d .n ≡ g .n → Laid d ix b w → ((v : ℕ) → v < d .n → col b w v ≡ q → cur cb w' v ≡ start (d .src) v) → Cursors d ix cb b q w'
+    first-cursors : (d : Graph) (ix cb : ℕ) → d .n ≡ g .n → Laid d ix b w → ((v : ℕ) → v < d .n → col b w v ≡ q → cur cb w' v ≡ first d v) → Cursors d ix cb b q w'
     first-cursors d ix cb en x f = record {
       least = λ v l p. omega (arith, f v l (sym (same-col v (omega arith)) ∙ p));
-      most = λ v l p. omega (arith, f v l (sym (same-col v (omega arith)) ∙ p), start-mono (d .src) v (suc v) (omega arith));
+      most = λ v l p. omega (arith, f v l (sym (same-col v (omega arith)) ∙ p), start-mono (d .counted) (d .src) (edges d) v (suc v) (omega arith));
       passed = λ v j l p s t e. omega (arith, f v l (sym (same-col v (omega arith)) ∙ p));
     }
 

@@ -15,7 +15,7 @@ use Rattle.graph.specs.Search.{part}
 use Rattle.graph.proofs.Tests.{eq-T}
 use Rattle.graph.proofs.Counts.{many-mono, many-more, many-one}
 use Rattle.graph.proofs.Chains.{edge-rev}
-use Rattle.index.specs.Index.{start}
+use Rattle.index.specs.Index.{first}
 use Rattle.paint.specs.Colours.{col, que}
 use Rattle.trim.specs.Trim.{live, revAt, intoAt, outAt, Aside}
 use Rattle.trim.specs.Cursor.{cur, ahead, Walking, Tied, TiedAsk, Hued}
@@ -78,11 +78,11 @@ module _ {g : Graph} {b v q k : ℕ} {w : List ℕ} (a : ExamineAsk g b v q k w)
             front = que₁;
             sum = omega (arith, live₁);
             keeps = λ x h i u m. let (l, p) = i u m in (l, col₁ u l ∙ p);
-            out = λ u l p. elim (ℕ-discrete u v) as (λ _. (cur (outAt g b) w₁ u ≡ cur (outAt g b) w u) ⊎ ((cur (outAt g b) w₁ u < start (g .src) (suc u)) × (col b w (ahead g 0 (outAt g b) w₁ u) ≡ q))) [
+            out = λ u l p. elim (ℕ-discrete u v) as (λ _. (cur (outAt g b) w₁ u ≡ cur (outAt g b) w u) ⊎ ((cur (outAt g b) w₁ u < first g (suc u)) × (col b w (ahead g 0 (outAt g b) w₁ u) ≡ q))) [
               | yes e ↦ rw e (inr (so .before, sym (col₁ (ahead g 0 (outAt g b) w₁ v) (ahead-low g 0 (outAt g b) b q w₁ (t .walking .out) v (a .low) (col₁ v (a .low) ∙ here) (so .before))) ∙ so .inside))
               | no e ↦ inl (out₁ u l e)
             ];
-            into = λ u l p. elim (ℕ-discrete u v) as (λ _. (cur (intoAt g b) w₁ u ≡ cur (intoAt g b) w u) ⊎ ((cur (intoAt g b) w₁ u < start (g .tgt) (suc u)) × (col b w (ahead (rev g) (revAt g) (intoAt g b) w₁ u) ≡ q))) [
+            into = λ u l p. elim (ℕ-discrete u v) as (λ _. (cur (intoAt g b) w₁ u ≡ cur (intoAt g b) w u) ⊎ ((cur (intoAt g b) w₁ u < first (rev g) (suc u)) × (col b w (ahead (rev g) (revAt g) (intoAt g b) w₁ u) ≡ q))) [
               | yes e ↦ rw e (inr (si .before, sym (col₁ (ahead (rev g) (revAt g) (intoAt g b) w₁ v) (ahead-low (rev g) (revAt g) (intoAt g b) b q w₁ (t .walking .into) v (a .low) (col₁ v (a .low) ∙ here) (si .before))) ∙ si .inside))
               | no e ↦ inl (into₁ u l e)
             ];

@@ -5,9 +5,9 @@ use native.Mathlib.Decide.{ℕ-discrete}
 use mathlib.Core.Path.{_≡_, refl, sym, ap, _∙_}
 use mathlib.Core.Logic.{_⊎_, inl, inr, ⊎-elim}
 use mathlib.Core.List.{List}
-use lib.ListN.{length, getD}
+use lib.ListN.{getD}
 use Rattle.graph.specs.Graph.{Graph, Part, all, rev, edges}
-use Rattle.index.specs.Index.{start}
+use Rattle.index.specs.Index.{first}
 use Rattle.paint.specs.Colours.{col, que}
 use Rattle.paint.specs.Paint.{other, Laid}
 use Rattle.trim.specs.Chain.{ord, own, nxt}
@@ -15,29 +15,26 @@ use Rattle.trim.specs.Trim.{revAt, intoAt, outAt}
 use Rattle.trim.specs.Cursor.{ahead, Stands}
 use Rattle.trim.specs.Prune.{Pruning, Pruned, Fresh, Off, Standing, AllStanding, ExamineAsk, Examined, AroundAsk, Around, BesideAsk, Beside, PassAsk}
 use Rattle.index.proofs.Counts.{start-mono}
-use Rattle.trim.proofs.Walks.{last-le, place-edge, ends-at}
+use Rattle.trim.proofs.Walks.{last-le, other-low, ends-at}
 use Rattle.trim.proofs.Aims.{Along, along-less}
 use Rattle.trim.proofs.Steps.{shrinks, fresh-kept, standing-kept, stands-fresh, stands-standing, fresh-off, pruned-none, pruned-more}
 
 -- THE NEIGHBOURS AT THE PLACES OF AN INDEX
-pub around-none : {g : Graph} {eb b : ℕ} {ends : List ℕ} {i t q k : ℕ} {w : List ℕ} → AroundAsk g eb b ends i t q k w → Around g eb b ends i i q k w w k
+pub around-none : {g : Graph} {eb b i t q k : ℕ} {w : List ℕ} → AroundAsk g eb b i t q k w → Around g eb b i i q k w w k
 around-none a = record { pruned = pruned-none (a .state); fresh = λ j h l. absurd (omega arith) }
 
-module _ {g : Graph} {eb b : ℕ} {ends : List ℕ} {i₀ t q k₀ : ℕ} {w₀ : List ℕ} (a : AroundAsk g eb b ends i₀ t q k₀ w₀)
-    {i : ℕ} {w : List ℕ} {k : ℕ} (z : Around g eb b ends i₀ i q k₀ w₀ w k) (l : i₀ ≤ i) (h : i < t) where
-  same-number : getD w (eb + i) 0 ≡ getD w₀ (eb + i) 0
-  same-number = z .pruned .aside .low (eb + i) (omega (arith, a .below))
+module _ {g : Graph} {eb b i₀ t q k₀ : ℕ} {w₀ : List ℕ} (a : AroundAsk g eb b i₀ t q k₀ w₀)
+    {i : ℕ} {w : List ℕ} {k : ℕ} (z : Around g eb b i₀ i q k₀ w₀ w k) (l : i₀ ≤ i) (h : i < t) where
+  same-other : other w eb i ≡ other w₀ eb i
+  same-other = z .pruned .aside .low (eb + i) (omega (arith, a .below))
 
-  pub around-edge : getD w (eb + i) 0 < length ends
-  around-edge = omega (arith, same-number, a .edges i l h)
+  pub around-low : other w eb i < g .n
+  around-low = omega (arith, same-other, a .ends i l h)
 
-  pub around-low : other w eb ends i < g .n
-  around-low = a .low (getD w (eb + i) 0) around-edge
-
-  pub around-ask : ExamineAsk g b (other w eb ends i) q k w
+  pub around-ask : ExamineAsk g b (other w eb i) q k w
   around-ask = record { state = z .pruned .state; low = around-low }
 
-  module _ {w' : List ℕ} {k' : ℕ} (e : Examined g b (other w eb ends i) q k w w' k') where
+  module _ {w' : List ℕ} {k' : ℕ} (e : Examined g b (other w eb i) q k w w' k') where
     less : (u : ℕ) → u < g .n → col b w u ≡ q → col b w₀ u ≡ q
     less = shrinks (g .n) b q k₀ w₀ w k (z .pruned .each)
 
@@ -59,42 +56,43 @@ module _ {g : Graph} {eb b : ℕ} {ends : List ℕ} {i₀ t q k₀ : ℕ} {w₀ 
       stands-fresh (rev g) (revAt g) (intoAt g b) b q w₀ w' (e .pruned .state .walking .into) (λ u n c. less u n (less' u n c)) x m p d,
     )
 
-    pub around-step : Around g eb b ends i₀ (i + 1) q k₀ w₀ w' k'
+    pub around-step : Around g eb b i₀ (i + 1) q k₀ w₀ w' k'
     around-step = record {
       pruned = pruned-more (z .pruned) (e .pruned);
-      fresh = λ j m n p. elim (ℕ-discrete j i) as (λ _. Two (other w₀ eb ends j)) [
+      fresh = λ j m n p. elim (ℕ-discrete j i) as (λ _. Two (other w₀ eb j)) [
         | yes y ↦ rw y (
-            let s : other w eb ends i ≡ other w₀ eb ends i = ap (λ (x : ℕ). getD ends x 0) same-number in
-            let c : col b w' (other w₀ eb ends i) ≡ q = rw y at p in
-            new (other w₀ eb ends i) (rw s at around-low) c (rw s at (e .stands (ap (col b w') s ∙ c))))
+            let c : col b w' (other w₀ eb i) ≡ q = rw y at p in
+            new (other w₀ eb i) (a .ends i l h) c (rw same-other at (e .stands (ap (col b w') same-other ∙ c))))
         | no y ↦
-            let x = other w₀ eb ends j in
-            let low : x < g .n = a .low (getD w₀ (eb + j) 0) (a .edges j m (omega arith)) in
+            let x = other w₀ eb j in
+            let low : x < g .n = a .ends j m (omega arith) in
             old x low p (z .fresh j m (omega arith) (less' x low p))
       ];
     }
 
 -- in the index of d, which is g or its reverse
-pub beside-ask : {g d : Graph} {ix b q k : ℕ} {w : List ℕ} (u : ℕ) → Laid d ix b w → d .n ≡ g .n → u < d .n → Pruning g b q k w
-    → AroundAsk g (ix + d .n + 1) b (d .tgt) (getD w (ix + u) 0) (getD w (ix + u + 1) 0) q k w
+beside-ask : {g d : Graph} {ix b q k : ℕ} {w : List ℕ} (u : ℕ) → Laid d ix b w → d .n ≡ g .n → u < d .n → Pruning g b q k w
+    → AroundAsk g (ix + d .n + 1) b (getD w (ix + u) 0) (getD w (ix + u + 1) 0) q k w
 beside-ask {g} {d} {ix} {b} {q} {k} {w} u x e l s =
-    let f : getD w (ix + u) 0 ≡ start (d .src) u = x .index .offs u (omega arith) in
+    let f : getD w (ix + u) 0 ≡ first d u = x .index .offs u (omega arith) in
     let t = ends-at d ix b w x u l in
     record {
       state = s;
-      order = omega (arith, f, t, start-mono (d .src) u (suc u) (omega arith));
+      order = omega (arith, f, t, start-mono (d .counted) (d .src) (edges d) u (suc u) (omega arith));
       below = omega (arith, t, last-le d ix b w x u l, x .below);
-      edges = λ j m n. omega (arith, x .valid .same, place-edge d ix b w x u j l (omega (arith, f)) (omega (arith, t)) .0);
-      low = λ c m. omega (arith, x .valid .to-low c (omega (arith, x .valid .same)), e);
+      ends = λ j m n. omega (arith, other-low d ix b w x u j l (omega (arith, f)) (omega (arith, t)), e);
     }
 
 -- u has gone, and its neighbours in both directions were examined
+pub beside-first : {g : Graph} {b u q k : ℕ} {w : List ℕ} → BesideAsk g b u q k w → AroundAsk g (0 + g .n + 1) b (getD w (0 + u) 0) (getD w (0 + u + 1) 0) q k w
+beside-first {u = u} a = beside-ask u (a .state .walking .out .laid) refl (a .low) (a .state)
+
 module _ {g : Graph} {b u q k : ℕ} {w : List ℕ} (a : BesideAsk g b u q k w)
-    {w₁ : List ℕ} {k₁ : ℕ} (y : Around g (0 + g .n + 1) b (g .tgt) (getD w (0 + u) 0) (getD w (0 + u + 1) 0) q k w w₁ k₁) where
-  pub beside-second : AroundAsk g (revAt g + g .n + 1) b (g .src) (getD w₁ (revAt g + u) 0) (getD w₁ (revAt g + u + 1) 0) q k₁ w₁
+    {w₁ : List ℕ} {k₁ : ℕ} (y : Around g (0 + g .n + 1) b (getD w (0 + u) 0) (getD w (0 + u + 1) 0) q k w w₁ k₁) where
+  pub beside-second : AroundAsk g (revAt g + g .n + 1) b (getD w₁ (revAt g + u) 0) (getD w₁ (revAt g + u + 1) 0) q k₁ w₁
   beside-second = beside-ask u (y .pruned .state .walking .into .laid) refl (a .low) (y .pruned .state)
 
-  module _ {w₂ : List ℕ} {k₂ : ℕ} (z : Around g (revAt g + g .n + 1) b (g .src) (getD w₁ (revAt g + u) 0) (getD w₁ (revAt g + u + 1) 0) q k₁ w₁ w₂ k₂) where
+  module _ {w₂ : List ℕ} {k₂ : ℕ} (z : Around g (revAt g + g .n + 1) b (getD w₁ (revAt g + u) 0) (getD w₁ (revAt g + u + 1) 0) q k₁ w₁ w₂ k₂) where
     fore : Laid g 0 b w
     fore = a .state .walking .out .laid
 
@@ -107,20 +105,20 @@ module _ {g : Graph} {b u q k : ℕ} {w : List ℕ} (a : BesideAsk g b u q k w)
     less₂ : (v : ℕ) → v < g .n → col b w₂ v ≡ q → col b w₁ v ≡ q
     less₂ = shrinks (g .n) b q k₁ w₁ w₂ k₂ (z .pruned .each)
 
-    targets-fresh : (j : ℕ) → start (g .src) u ≤ j → j < start (g .src) (suc u) → col b w₂ (other w (0 + g .n + 1) (g .tgt) j) ≡ q
-        → Fresh (rev g) (revAt g) (intoAt g b) b q w w₂ (other w (0 + g .n + 1) (g .tgt) j)
+    targets-fresh : (j : ℕ) → first g u ≤ j → j < first g (suc u) → col b w₂ (other w (0 + g .n + 1) j) ≡ q
+        → Fresh (rev g) (revAt g) (intoAt g b) b q w w₂ (other w (0 + g .n + 1) j)
     targets-fresh j m n p =
-        let x = other w (0 + g .n + 1) (g .tgt) j in
-        let low : x < g .n = fore .valid .to-low (getD w (0 + g .n + 1 + j) 0) (place-edge g 0 b w fore u j (a .low) m n .0) in
+        let x = other w (0 + g .n + 1) j in
+        let low : x < g .n = other-low g 0 b w fore u j (a .low) m n in
         fresh-kept (rev g) (revAt g) (intoAt g b) b q k₁ w₁ w₂ k₂ (y .pruned .state .walking .into) (z .pruned .state .walking .into) (z .pruned .aside .low) (z .pruned .each) (z .pruned .into)
         x low p w less₁ (y .fresh j (omega (arith, fore .index .offs u (omega (arith, a .low)))) (omega (arith, ends-at g 0 b w fore u (a .low))) (less₂ x low p) .1)
 
     pub beside-all : Beside g b u q k w w₂ k₂
     beside-all = record {
       pruned = pruned-more (y .pruned) (z .pruned);
-      out = fresh-off g 0 (outAt g b) b q (revAt g) w₁ w₂ u (a .low) (λ p. a .went (less₁ u (a .low) p)) (z .pruned .state .walking .out) back
+      out = fresh-off g 0 (outAt g b) b q (revAt g) w₁ w₂ u (λ p. a .went (less₁ u (a .low) p)) (z .pruned .state .walking .out) back
           (λ j m n p. z .fresh j (omega (arith, back .index .offs u (omega (arith, a .low)))) (omega (arith, ends-at (rev g) (revAt g) b w₁ back u (a .low))) p .0);
-      into = fresh-off (rev g) (revAt g) (intoAt g b) b q 0 w w₂ u (a .low) (a .went) (z .pruned .state .walking .into) fore targets-fresh;
+      into = fresh-off (rev g) (revAt g) (intoAt g b) b q 0 w w₂ u (a .went) (z .pruned .state .walking .into) fore targets-fresh;
     }
 
 -- THE QUEUE IS DRAINED
@@ -143,6 +141,9 @@ off-standing g ix cb b q h k w u v l p e o s = record {
       ])
       (s .inside);
 }
+
+pub drain-beside : {g : Graph} {b q k : ℕ} {w : List ℕ} (h : ℕ) → Pruning g b q k w → h < k → BesideAsk g b (que (g .n) b w h) q k w
+drain-beside h s l = let (m, f) = s .gone h l in record { state = s; low = m; went = f }
 
 pub drain-step : {g : Graph} {b q k : ℕ} {w w' : List ℕ} {k' : ℕ} (h : ℕ) → Pruning g b q k w → h < k → Beside g b (que (g .n) b w h) q k w w' k'
     → AllStanding g b q all h k w → AllStanding g b q all (h + 1) k' w'
@@ -185,6 +186,9 @@ module _ {g : Graph} {b h q : ℕ} {w₀ : List ℕ} (a : PassAsk g b h q w₀) 
 
     pub pass-low : getD w (b + 9 * g .n + 2 + i) 0 < g .n
     pass-low = omega (arith, pass-place, a .chain .placed .low i l)
+
+    pub pass-examine : ExamineAsk g b (getD w (b + 9 * g .n + 2 + i) 0) q k w
+    pass-examine = record { state = z .state; low = pass-low }
 
     pub pass-step : {w' : List ℕ} {k' : ℕ} → Examined g b (getD w (b + 9 * g .n + 2 + i) 0) q k w w' k'
         → AllStanding g b q (Before (g .n) b w₀ i) 0 k w → AllStanding g b q (Before (g .n) b w₀ (nxt (g .n) b w₀ i)) 0 k' w'

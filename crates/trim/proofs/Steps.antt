@@ -5,14 +5,16 @@ use mathlib.Core.Path.{_≡_, refl, sym, ap, _∙_}
 use mathlib.Core.Logic.{_⊎_, inl, inr, ⊎-elim}
 use mathlib.Core.List.{List}
 use lib.ListN.{getD}
-use Rattle.graph.specs.Graph.{Graph, rev, to}
-use Rattle.index.specs.Index.{start}
+use Rattle.graph.specs.Graph.{Graph, rev}
+use Rattle.graph.proofs.Chains.{edge-rev}
+use Rattle.index.specs.Index.{first}
+use Rattle.index.proofs.Counts.{found}
 use Rattle.paint.specs.Colours.{col, que}
 use Rattle.paint.specs.Paint.{other, Laid}
 use Rattle.trim.specs.Trim.{revAt, intoAt, outAt, Aside}
 use Rattle.trim.specs.Cursor.{cur, ahead, Stands, Side}
 use Rattle.trim.specs.Prune.{Pruning, Pruned, Each, Moved, Fresh, Off, Standing}
-use Rattle.trim.proofs.Walks.{place-edge, edge-place, ahead-same, ahead-low}
+use Rattle.trim.proofs.Walks.{place-edge, ahead-same, ahead-low}
 
 pub aside-none : (n b : ℕ) (w : List ℕ) → Aside n b w w
 aside-none n b w = record { low = λ j h. refl; mid = λ j h l. refl; high = λ j h. refl; long = refl }
@@ -71,7 +73,7 @@ module _ (g : Graph) (ix cb b q : ℕ) where
         (λ (d, i). record { before = d; inside = within d i })
         (move v l p)
       where
-        within : cur cb w' v < start (g .src) (suc v) → col b w (ahead g ix cb w' v) ≡ q
+        within : cur cb w' v < first g (suc v) → col b w (ahead g ix cb w' v) ≡ q
             → (col b w' (ahead g ix cb w' v) ≡ q) ⊎ ((i : ℕ) × (h ≤ i) × (i < k') × (que (g .n) b w' i ≡ ahead g ix cb w' v))
         within d i = ⊎-elim (λ c. inl c) (λ (j, m, n, c). inr (j, omega arith, n, c))
             (remains (g .n) b q k w w' k' each (ahead g ix cb w' v) (ahead-low g ix cb b q w' s' v l p d) i)
@@ -84,14 +86,12 @@ module _ (g : Graph) (ix cb b q : ℕ) where
   stands-standing h k w v t = record { before = t .before; inside = inl (t .inside) }
 
   -- if all that have an edge to u, which is not in the part, were examined, then no cursor stands at such an edge
-  pub fresh-off : (rx : ℕ) (w w' : List ℕ) (u : ℕ) → u < g .n → (col b w u ≡ q → ⊥) → Side g ix cb b q w' → Laid (rev g) rx b w
-      → ((j : ℕ) → start (g .tgt) u ≤ j → j < start (g .tgt) (suc u) → col b w' (other w (rx + g .n + 1) (g .src) j) ≡ q → Fresh g ix cb b q w w' (other w (rx + g .n + 1) (g .src) j))
+  pub fresh-off : (rx : ℕ) (w w' : List ℕ) (u : ℕ) → (col b w u ≡ q → ⊥) → Side g ix cb b q w' → Laid (rev g) rx b w
+      → ((j : ℕ) → first (rev g) u ≤ j → j < first (rev g) (suc u) → col b w' (other w (rx + g .n + 1) j) ≡ q → Fresh g ix cb b q w w' (other w (rx + g .n + 1) j))
       → Off g ix cb b q u w'
-  fresh-off rx w w' u lu o s x f v l p h e =
-      let d = place-edge g ix b w' (s .laid) v (cur cb w' v) l (s .cursors .least v l p) h in
-      let c = getD w' (ix + g .n + 1 + cur cb w' v) 0 in
-      let (j, m, t, i) = edge-place (rev g) rx b w x c u (omega (arith, d .0, s .laid .valid .same)) e lu in
-      let y : other w (rx + g .n + 1) (g .src) j ≡ v = ap (λ (z : ℕ). getD (g .src) z 0) i ∙ d .1 in
+  fresh-off rx w w' u o s x f v l p h e =
+      let (c, d) = place-edge g ix b w' (s .laid) v (cur cb w' v) (s .cursors .least v l p) h in
+      let (j, m, t, y) = found (rev g) (x .index) c u v (edge-rev (s .laid .valid) (rw e at d)) in
       let r : Fresh g ix cb b q w w' v = rw y at (f j m t (ap (col b w') y ∙ p)) in
       o (ap (col b w) (sym e) ∙ r .inside)
 

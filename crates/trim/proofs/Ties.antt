@@ -24,10 +24,10 @@ stands-same g ix cb b q w w' s low cols v l p c t =
     }
 
 module _ {g : Graph} {b v q : ℕ} {w : List ℕ} (a : TiedAsk g b v q w) where
-  pub tied-first : AdvanceAsk (g .n) 0 (outAt g b) b v (g .tgt) w
+  pub tied-first : AdvanceAsk (g .n) 0 (outAt g b) b v w
   tied-first = advance-ask g 0 (outAt g b) b q w (a .walking .out) (omega arith) (omega (arith, a .walking .long)) v (a .low) (a .live)
 
-  module _ {w₁ : List ℕ} {r₁ : ℕ} (s : Advanced (g .n) 0 (outAt g b) b v q (g .tgt) w w₁ r₁) where
+  module _ {w₁ : List ℕ} {r₁ : ℕ} (s : Advanced (g .n) 0 (outAt g b) b v q w w₁ r₁) where
     else₁ : (j : ℕ) → (j ≡ outAt g b + v → ⊥) → getD w₁ j 0 ≡ getD w j 0
     else₁ j o = ap (λ (x : List ℕ). getD x j 0) (s .store) ∙ getD-set-other w (outAt g b + v) j (s .place) 0 o
 
@@ -59,10 +59,10 @@ module _ {g : Graph} {b v q : ℕ} {w : List ℕ} (a : TiedAsk g b v q w) where
       some = λ o. absurd (o refl);
     }
 
-    pub tied-second : AdvanceAsk (g .n) (revAt g) (intoAt g b) b v (g .src) w₁
+    pub tied-second : AdvanceAsk (g .n) (revAt g) (intoAt g b) b v w₁
     tied-second = advance-ask (rev g) (revAt g) (intoAt g b) b q w₁ (walking₁ .into) (omega arith) (omega (arith, walking₁ .long)) v (a .low) (col₁ v (a .low) ∙ a .live)
 
-    module _ {w₂ : List ℕ} {r₂ : ℕ} (t : Advanced (g .n) (revAt g) (intoAt g b) b v q (g .src) w₁ w₂ r₂) where
+    module _ {w₂ : List ℕ} {r₂ : ℕ} (t : Advanced (g .n) (revAt g) (intoAt g b) b v q w₁ w₂ r₂) where
       else₂ : (j : ℕ) → (j ≡ intoAt g b + v → ⊥) → getD w₂ j 0 ≡ getD w₁ j 0
       else₂ j o = ap (λ (x : List ℕ). getD x j 0) (t .store) ∙ getD-set-other w₁ (intoAt g b + v) j (t .place) 0 o
 

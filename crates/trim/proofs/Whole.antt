@@ -9,7 +9,7 @@ use mathlib.Core.List.{List}
 use lib.ListN.{length}
 use lib.Dec.{T, eqb, ltb, eqb→eq, ltb→lt, lt→ltb}
 use Rattle.graph.specs.Limits.{wordsOf, Enough}
-use Rattle.graph.specs.Graph.{Graph, graph}
+use Rattle.graph.specs.Graph.{Graph, graph, rev}
 use Rattle.graph.specs.Numbers.{table, tally, many, mark}
 use Rattle.graph.specs.Search.{part, trim, trimmed, core}
 use Rattle.graph.specs.Sets.{bit, members}
@@ -22,13 +22,14 @@ use Rattle.graph.proofs.Refusals.{or-none, or-left-none, given-none, not-lackin
 use Rattle.graph.proofs.Trim.{core-is}
 use Rattle.index.specs.Build.{BothAsk, Both}
 use Rattle.index.proofs.Asks.{valid-both}
-use Rattle.index.proofs.Moved.{indexed-kept}
+use Rattle.index.proofs.Counts.{start-all}
+use Rattle.index.proofs.Moved.{held-kept}
 use Rattle.sets.proofs.Store.{bit-lt, empty-bit}
 use Rattle.sets.proofs.Sizes.{sized, size-below, size-many}
 use Rattle.paint.specs.Colours.{col}
 use Rattle.trim.specs.Chain.{own, nxt, Follows}
 use Rattle.trim.specs.Trim.{hued, revAt, TrimAsk, Trimmed}
-use Rattle.trim.specs.Stages.{ColourAsk, Coloured, StringAsk, From, Strung, CollectAsk, Collected, RunAsk, Ran}
+use Rattle.trim.specs.Stages.{ColourAsk, Coloured, StringAsk, Strung, CollectAsk, Collected, RunAsk, Ran}
 use Rattle.trim.specs.Promise.{Call, trimRefusal, leftOf, Finished}
 use Rattle.trim.proofs.Core.{hued-is, is-hued, core-of}
 
@@ -64,10 +65,10 @@ module _ {n : ℕ} {sources targets part w₀ r₀ : List ℕ} (a : RunAsk (grap
   abbrev b : ℕ
   b = 2 * (n + 1 + length sources)
 
-  pub both-ask : BothAsk sources targets n w₀
+  pub both-ask : BothAsk g w₀
   both-ask = valid-both (a .valid) (a .small) (a .few) (omega (arith, a .room))
 
-  module _ {w₁ : List ℕ} (o : Both sources targets n w₀ w₁) where
+  module _ {w₁ : List ℕ} (o : Both g w₀ w₁) where
     pub colour-ask : ColourAsk n b part w₁
     colour-ask = record { small = a .small; room = omega (arith, a .room, o .long); words = a .part-long }
 
@@ -93,18 +94,15 @@ module _ {n : ℕ} {sources targets part w₀ r₀ : List ℕ} (a : RunAsk (grap
         trim-ask = record {
           fwd = record {
             valid = a .valid;
-            counts = λ e. refl;
             few = a .few;
             below = omega arith;
-            index = indexed-kept sources n 0 w₁ w₃ (a .valid .from-low) (λ j _ l. s .low j (omega arith) ∙ c .frame .low j (omega arith)) (o .forward);
+            index = held-kept g 0 w₁ w₃ (λ j _ l. s .low j (omega arith) ∙ c .frame .low j (omega arith)) (o .forward);
           };
           bwd = record {
             valid = valid-rev (a .valid);
-            counts = λ e. refl;
-            few = omega (arith, a .few, a .valid .same);
-            below = omega (arith, a .valid .same);
-            index = indexed-kept targets n (revAt g) w₁ w₃ (valid-rev (a .valid) .from-low)
-                (λ j _ l. s .low j (omega (arith, a .valid .same)) ∙ c .frame .low j (omega (arith, a .valid .same))) (o .reverse);
+            few = a .few;
+            below = omega arith;
+            index = held-kept (rev g) (revAt g) w₁ w₃ (λ j _ l. s .low j (omega arith) ∙ c .frame .low j (omega arith)) (o .reverse);
           };
           small = a .small;
           long = omega (arith, string-ask .long, s .long);
@@ -159,7 +157,7 @@ module _ {n : ℕ} {sources targets part w₀ r₀ : List ℕ} (a : RunAsk (grap
             long = d .long ∙ z .long;
             set = λ v. d .set v ∙ ap (λ (t : Bool). cond t 1 0) (left v ∙ ap (λ (l : List Bool). mark l v) left-same);
             numbers = t .aside .long ∙ s .long ∙ c .frame .long ∙ o .long;
-            rest = λ j l. t .aside .high j (omega arith) ∙ s .high j (omega arith) ∙ c .frame .high j (omega arith) ∙ o .rest j (omega arith);
+            rest = λ j l. t .aside .high j (omega arith) ∙ s .high j (omega arith) ∙ c .frame .high j (omega arith) ∙ o .rest j (omega (arith, start-all (λ e. true) targets (length sources) n));
           }
 
 -- THE CALL

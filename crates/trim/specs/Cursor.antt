@@ -4,32 +4,32 @@ use mathlib.Core.Path.{_≡_}
 use mathlib.Core.List.{List}
 use mathlib.Core.Logic.{_⊎_}
 use lib.ListN.{length, getD, set}
-use Rattle.graph.specs.Graph.{Graph, rev, edges}
+use Rattle.graph.specs.Graph.{Graph, rev}
 use Rattle.graph.specs.Parts.{Left}
 use Rattle.graph.specs.Limits.{mostVertices}
-use Rattle.index.specs.Index.{start, Below}
+use Rattle.index.specs.Index.{first}
 use Rattle.paint.specs.Colours.{col}
 use Rattle.paint.specs.Paint.{other, Laid}
 use Rattle.trim.specs.Chain.{ord, own, Chained}
 use Rattle.trim.specs.Trim.{revAt, intoAt, outAt}
 
--- the place of v's cursor among the edge numbers, and the other end of the edge there; the cursors stand from cb on, the index at ix
+-- the place of v's cursor among the neighbours, and the neighbour there; the cursors stand from cb on, the index at ix
 abbrev pub cur : ℕ → List ℕ → ℕ → ℕ
 cur cb w v = getD w (cb + v) 0
 
 abbrev pub ahead : Graph → ℕ → ℕ → List ℕ → ℕ → ℕ
-ahead g ix cb w v = other w (ix + g .n + 1) (g .tgt) (cur cb w v)
+ahead g ix cb w v = other w (ix + g .n + 1) (cur cb w v)
 
 -- the cursors of the part q are at their vertex's edges, and what they have passed leads out of the part
 pub record Cursors (g : Graph) (ix cb b q : ℕ) (w : List ℕ) : Type 0 where
-  pub least : (v : ℕ) → v < g .n → col b w v ≡ q → start (g .src) v ≤ cur cb w v
-  pub most : (v : ℕ) → v < g .n → col b w v ≡ q → cur cb w v ≤ start (g .src) (suc v)
-  pub passed : (v j : ℕ) → v < g .n → col b w v ≡ q → start (g .src) v ≤ j → j < cur cb w v
-      → col b w (other w (ix + g .n + 1) (g .tgt) j) ≡ q → ⊥
+  pub least : (v : ℕ) → v < g .n → col b w v ≡ q → first g v ≤ cur cb w v
+  pub most : (v : ℕ) → v < g .n → col b w v ≡ q → cur cb w v ≤ first g (suc v)
+  pub passed : (v j : ℕ) → v < g .n → col b w v ≡ q → first g v ≤ j → j < cur cb w v
+      → col b w (other w (ix + g .n + 1) j) ≡ q → ⊥
 
 -- v's cursor stands at an edge that leads into the part
 pub record Stands (g : Graph) (ix cb b q : ℕ) (w : List ℕ) (v : ℕ) : Type 0 where
-  pub before : cur cb w v < start (g .src) (suc v)
+  pub before : cur cb w v < first g (suc v)
   pub inside : col b w (ahead g ix cb w v) ≡ q
 
 -- one direction: the index and the cursors
@@ -45,29 +45,28 @@ pub record Walking (g : Graph) (b q : ℕ) (w : List ℕ) : Type 0 where
   pub long : b + 8 * g .n + 2 ≤ length w
   pub part : g .n ≤ q
 
-pub record FindAsk (n eb b : ℕ) (to : List ℕ) (i t : ℕ) (w : List ℕ) : Type 0 where
+pub record FindAsk (n eb b i t : ℕ) (w : List ℕ) : Type 0 where
   pub order : i ≤ t
   pub fits : eb + t ≤ length w
   pub room : b + n ≤ length w
-  pub edges : (j : ℕ) → i ≤ j → j < t → getD w (eb + j) 0 < length to
-  pub ends : Below to n
+  pub ends : (j : ℕ) → i ≤ j → j < t → other w eb j < n
 
 -- the first place from i on, below t, whose edge leads to the colour q; t if there is none
-pub record Found (eb b : ℕ) (to : List ℕ) (q i t : ℕ) (w : List ℕ) (r : ℕ) : Type 0 where
+pub record Found (eb b q i t : ℕ) (w : List ℕ) (r : ℕ) : Type 0 where
   pub least : i ≤ r
   pub most : r ≤ t
-  pub passed : (j : ℕ) → i ≤ j → j < r → col b w (other w eb to j) ≡ q → ⊥
-  pub stop : r < t → col b w (other w eb to r) ≡ q
+  pub passed : (j : ℕ) → i ≤ j → j < r → col b w (other w eb j) ≡ q → ⊥
+  pub stop : r < t → col b w (other w eb r) ≡ q
 
-pub record AdvanceAsk (n ix cb b v : ℕ) (to w : List ℕ) : Type 0 where
-  pub find : FindAsk n (ix + n + 1) b to (cur cb w v) (getD w (ix + v + 1) 0) w
+pub record AdvanceAsk (n ix cb b v : ℕ) (w : List ℕ) : Type 0 where
+  pub find : FindAsk n (ix + n + 1) b (cur cb w v) (getD w (ix + v + 1) 0) w
   pub offset : ix + v + 1 < length w
   pub cursor : cb + v < length w
 
 -- v's cursor has gone on to the first edge that leads to the colour q, or to the end of its edges; r is 0 at the end
-pub record Advanced (n ix cb b v q : ℕ) (to w w' : List ℕ) (r : ℕ) : Type 0 where
+pub record Advanced (n ix cb b v q : ℕ) (w w' : List ℕ) (r : ℕ) : Type 0 where
   pub place : ℕ
-  pub found : Found (ix + n + 1) b to q (cur cb w v) (getD w (ix + v + 1) 0) w place
+  pub found : Found (ix + n + 1) b q (cur cb w v) (getD w (ix + v + 1) 0) w place
   pub store : w' ≡ set w (cb + v) place
   pub none : r ≡ 0 → place ≡ getD w (ix + v + 1) 0
   pub some : (r ≡ 0 → ⊥) → place < getD w (ix + v + 1) 0

@@ -4,12 +4,12 @@ use mathlib.Core.Path.{_≡_}
 use mathlib.Core.Bool.{Bool}
 use mathlib.Core.List.{List}
 use mathlib.Core.Logic.{_⊎_}
-use lib.ListN.{length, getD}
+use lib.ListN.{length}
 use lib.Dec.{T}
-use Rattle.graph.specs.Graph.{Graph, Part, all, rev, edges}
+use Rattle.graph.specs.Graph.{Graph, Part, all, rev}
 use Rattle.graph.specs.Parts.{Tight}
 use Rattle.graph.specs.Search.{part}
-use Rattle.index.specs.Index.{start, Below}
+use Rattle.index.specs.Index.{first}
 use Rattle.paint.specs.Colours.{col, que}
 use Rattle.paint.specs.Paint.{other}
 use Rattle.trim.specs.Chain.{Chained}
@@ -25,7 +25,7 @@ pub record Pruning (g : Graph) (b q k : ℕ) (w : List ℕ) : Type 0 where
 -- a cursor stayed, or went on to an edge that leads into the part as it was
 abbrev pub Moved : Graph → ℕ → ℕ → ℕ → ℕ → List ℕ → List ℕ → Type 0
 Moved g ix cb b q w w' = (v : ℕ) → v < g .n → col b w' v ≡ q
-    → (cur cb w' v ≡ cur cb w v) ⊎ ((cur cb w' v < start (g .src) (suc v)) × (col b w (ahead g ix cb w' v) ≡ q))
+    → (cur cb w' v ≡ cur cb w v) ⊎ ((cur cb w' v < first g (suc v)) × (col b w (ahead g ix cb w' v) ≡ q))
 
 -- the tight sets of vertices of the colour q are kept
 abbrev pub Keeps : Graph → ℕ → ℕ → List ℕ → List ℕ → Type 0
@@ -59,21 +59,20 @@ pub record Examined (g : Graph) (b v q k : ℕ) (w w' : List ℕ) (k' : ℕ) : T
 
 -- v's cursor in w' stands at an edge that led into the part in w
 pub record Fresh (g : Graph) (ix cb b q : ℕ) (w w' : List ℕ) (v : ℕ) : Type 0 where
-  pub before : cur cb w' v < start (g .src) (suc v)
+  pub before : cur cb w' v < first g (suc v)
   pub inside : col b w (ahead g ix cb w' v) ≡ q
 
--- the other ends of the edges at the places i .. t - 1 of the edge numbers, which stand in w from eb on, are to be examined
-pub record AroundAsk (g : Graph) (eb b : ℕ) (ends : List ℕ) (i t q k : ℕ) (w : List ℕ) : Type 0 where
+-- the neighbours at the places i .. t - 1 of the neighbours, which stand in w from eb on, are to be examined
+pub record AroundAsk (g : Graph) (eb b i t q k : ℕ) (w : List ℕ) : Type 0 where
   pub state : Pruning g b q k w
   pub order : i ≤ t
   pub below : eb + t ≤ b
-  pub edges : (j : ℕ) → i ≤ j → j < t → getD w (eb + j) 0 < length ends
-  pub low : Below ends (g .n)
+  pub ends : (j : ℕ) → i ≤ j → j < t → other w eb j < g .n
 
-pub record Around (g : Graph) (eb b : ℕ) (ends : List ℕ) (i t q k : ℕ) (w w' : List ℕ) (k' : ℕ) : Type 0 where
+pub record Around (g : Graph) (eb b i t q k : ℕ) (w w' : List ℕ) (k' : ℕ) : Type 0 where
   pub pruned : Pruned g b q k w w' k'
-  pub fresh : (j : ℕ) → i ≤ j → j < t → col b w' (other w eb ends j) ≡ q
-      → Fresh g 0 (outAt g b) b q w w' (other w eb ends j) × Fresh (rev g) (revAt g) (intoAt g b) b q w w' (other w eb ends j)
+  pub fresh : (j : ℕ) → i ≤ j → j < t → col b w' (other w eb j) ≡ q
+      → Fresh g 0 (outAt g b) b q w w' (other w eb j) × Fresh (rev g) (revAt g) (intoAt g b) b q w w' (other w eb j)
 
 pub record BesideAsk (g : Graph) (b u q k : ℕ) (w : List ℕ) : Type 0 where
   pub state : Pruning g b q k w
@@ -82,7 +81,7 @@ pub record BesideAsk (g : Graph) (b u q k : ℕ) (w : List ℕ) : Type 0 where
 
 -- no cursor of the part stands at an edge whose other end is u
 abbrev pub Off : Graph → ℕ → ℕ → ℕ → ℕ → ℕ → List ℕ → Type 0
-Off g ix cb b q u w = (v : ℕ) → v < g .n → col b w v ≡ q → cur cb w v < start (g .src) (suc v) → ahead g ix cb w v ≡ u → ⊥
+Off g ix cb b q u w = (v : ℕ) → v < g .n → col b w v ≡ q → cur cb w v < first g (suc v) → ahead g ix cb w v ≡ u → ⊥
 
 pub record Beside (g : Graph) (b u q k : ℕ) (w w' : List ℕ) (k' : ℕ) : Type 0 where
   pub pruned : Pruned g b q k w w' k'
@@ -91,7 +90,7 @@ pub record Beside (g : Graph) (b u q k : ℕ) (w w' : List ℕ) (k' : ℕ) : Typ
 
 -- v's cursor stands at an edge whose other end is in the part, or in the queue from h on
 pub record Standing (g : Graph) (ix cb b q h k : ℕ) (w : List ℕ) (v : ℕ) : Type 0 where
-  pub before : cur cb w v < start (g .src) (suc v)
+  pub before : cur cb w v < first g (suc v)
   pub inside : (col b w (ahead g ix cb w v) ≡ q) ⊎ ((i : ℕ) × (h ≤ i) × (i < k) × (que (g .n) b w i ≡ ahead g ix cb w v))
 
 -- all vertices of P that are left of the part stand so

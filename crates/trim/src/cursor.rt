@@ -1,17 +1,15 @@
-// Cursors: one for each vertex and direction; it walks the vertex's edges once, past those whose other end is not in the part.
-ghost use lib.ListN.{length};
-ghost use Rattle.graph.specs.Graph.{graph};
+// Cursors: one for each vertex and direction; it walks the vertex's neighbours once, past those that are not in the part.
+ghost use Rattle.graph.specs.Arrows.{SomeOf, EveryOf};
 ghost use Rattle.trim.specs.Cursor.{FindAsk, Found, AdvanceAsk, Advanced, TiedAsk, Tied, AimAsk, Aimed};
 
-// The first place from i0 on, below t, whose edge leads to the colour q; t if there is none.
-fn find(n: usize, to: &[u32], w: &[u32], eb: usize, b: usize, q: u32, i0: usize, t: usize) -> usize
-    requires { ⌜ FindAsk n eb b (now to) i0 t (now w) ⌝ }
-    ensures { λ r. ⌜ Found eb b (now (to .entry)) q i0 t (now (w .entry)) r ⌝ }
+// The first place from i0 on, below t, whose neighbour has the colour q; t if there is none.
+fn find(n: usize, w: &[u32], eb: usize, b: usize, q: u32, i0: usize, t: usize) -> usize
+    requires { ⌜ FindAsk n eb b i0 t (now w) ⌝ }
+    ensures { λ r. ⌜ Found eb b q i0 t (now (w .entry)) r ⌝ }
 {
     let mut i = i0;
     while i < t {
-        let e = w[eb + i] as usize;
-        let x = to[e] as usize;
+        let x = w[eb + i] as usize;
         if w[b + x] == q {
             return i;
         }
@@ -21,21 +19,12 @@ fn find(n: usize, to: &[u32], w: &[u32], eb: usize, b: usize, q: u32, i0: usize,
 }
 
 // v's cursor, at cb + v, goes on to the first edge that leads to the colour q. 0 if there is none, else 1.
-pub fn advance(
-    n: usize,
-    to: &[u32],
-    w: &mut [u32],
-    ix: usize,
-    cb: usize,
-    b: usize,
-    v: usize,
-    q: u32,
-) -> usize
-    requires { ⌜ AdvanceAsk n ix cb b v (now to) (now w) ⌝ }
-    ensures { λ r. ⌜ Advanced n ix cb b v q (now (to .entry)) (now (w .entry)) (now (w .exit)) r ⌝ }
+pub fn advance(n: usize, w: &mut [u32], ix: usize, cb: usize, b: usize, v: usize, q: u32) -> usize
+    requires { ⌜ AdvanceAsk n ix cb b v (now w) ⌝ }
+    ensures { λ r. ⌜ Advanced n ix cb b v q (now (w .entry)) (now (w .exit)) r ⌝ }
 {
     let t = w[ix + v + 1] as usize;
-    let i = find(n, to, w, ix + n + 1, b, q, w[cb + v] as usize, t);
+    let i = find(n, w, ix + n + 1, b, q, w[cb + v] as usize, t);
     w[cb + v] = i as u32;
     if i < t {
         return 1;
@@ -44,22 +33,14 @@ pub fn advance(
 }
 
 // 0 if no edge of the part q leaves v, or none enters it; else 1.
-pub fn tied(
-    sources: &[u32],
-    targets: &[u32],
-    n: usize,
-    w: &mut [u32],
-    b: usize,
-    v: usize,
-    q: u32,
-) -> usize
-    requires { ⌜ TiedAsk (graph n (now sources) (now targets)) b v q (now w) ⌝ }
-    ensures { λ r. ⌜ Tied (graph n (now (sources .entry)) (now (targets .entry))) b v q (now (w .entry)) (now (w .exit)) r ⌝ }
+pub fn tied(n: usize, m: usize, w: &mut [u32], b: usize, v: usize, q: u32) -> usize
+    requires { ⌜ SomeOf n m (λ g. TiedAsk g b v q (now w)) ⌝ }
+    ensures { λ r. ⌜ EveryOf n m (λ g. TiedAsk g b v q (now (w .entry)) → Tied g b v q (now (w .entry)) (now (w .exit)) r) ⌝ }
 {
-    if advance(n, targets, w, 0, b + 7 * n + 2, b, v, q) == 0 {
+    if advance(n, w, 0, b + 7 * n + 2, b, v, q) == 0 {
         return 0;
     }
-    advance(n, sources, w, n + 1 + sources.len(), b + 6 * n + 2, b, v, q)
+    advance(n, w, n + 1 + m, b + 6 * n + 2, b, v, q)
 }
 
 // Both cursors of each vertex of the part q, whose chain begins at place h, are set to its first edges.

@@ -83,7 +83,7 @@ pub fn run(
     build::both(sources, targets, n, w);
     colour(n, part, w, b);
     let h = string(n, w, b, q);
-    prune::prune(sources, targets, n, w, b, h, q);
+    prune::prune(n, sources.len(), w, b, h, q);
     memory::zero_words(left, part.len());
     collect(n, w, b, q, left);
 }

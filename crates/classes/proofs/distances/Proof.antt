@@ -7,34 +7,38 @@ use Rattle.classes.proofs.distances.Tie as tie
 
 colour-requires : tie.Need-colour-requires
 colour-requires c κs =
-    let start = c .before .before .before .before .before in
-    record { small = start .pre .small; size = start .pre .size; own = start .pre .own; fits = omega (arith, start .pre .fits) }
+    let start = c .before .before .before in
+    let a = start .pre .1 in record { small = a .small; size = a .size; own = a .own; fits = omega (arith, a .fits) }
 
 classes-requires : tie.Need-classes-requires
 classes-requires c κs =
     let at-colour = c .before .before .before in
-    let start = at-colour .before .before .before .before .before .before in
-    classes-ask (start .pre) (at-colour .colour .ensures)
+    let start = at-colour .before .before .before .before in
+    (start .pre .0, classes-ask (start .pre .1) (at-colour .colour .ensures))
 
 found-requires : tie.Need-found-requires
 found-requires c κs =
     let at-classes = c .before .before .before in
     let at-colour = at-classes .before .before .before .before in
-    let start = at-colour .before .before .before .before .before .before in
-    omega (arith, start .pre .fits, at-classes .classes .ensures .kept .long, at-colour .colour .ensures .framed .long)
+    let start = at-colour .before .before .before .before in
+    let (a, q) = start .pre in
+    let x = at-colour .colour .ensures in
+    omega (arith, q .fits, at-classes .classes .ensures a (classes-ask q x) .kept .long, x .framed .long)
 
 same-length : tie.Need-same-length
 same-length c =
     let at-classes = c .before .before .before .before in
     let at-colour = at-classes .before .before .before .before in
-    at-classes .classes .ensures .kept .long ∙ at-colour .colour .ensures .framed .long
+    let (a, q) = at-colour .before .before .before .before .pre in
+    let x = at-colour .colour .ensures in
+    at-classes .classes .ensures a (classes-ask q x) .kept .long ∙ x .framed .long
 
 returns : tie.Need-returns
 returns c =
     let at-classes = c .before .before .before .before in
     let at-colour = at-classes .before .before .before .before in
-    let start = at-colour .before .before .before .before .before .before in
-    distances-end (start .pre) (at-colour .colour .ensures) _ _ (at-classes .classes .ensures) (c .found .ensures)
+    let x = at-colour .colour .ensures in
+    λ g q. distances-end q x _ _ (at-classes .classes .ensures g (classes-ask q x)) (c .found .ensures)
 
 pub distances-spec : {M : Type 1} → statement M
 distances-spec =

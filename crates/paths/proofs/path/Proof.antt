@@ -1,5 +1,7 @@
 use mathlib.Core.Path.{_≡_, sym, _∙_}
-use Rattle.paths.specs.Promise.{Call, firstRefusal}
+use Rattle.graph.specs.Arrows.{arrows}
+use Rattle.paths.specs.Promise.{Call, collection, firstRefusal}
+use Rattle.paths.specs.Walk.{SettleAsk}
 use Rattle.paths.proofs.Answers.{admitted, find-ask, clear-ask, settled-promise, first-refused}
 use borrow.Author.Needs.{needs}
 use Rattle.paths.proofs.path.Statement.{statement}
@@ -9,11 +11,15 @@ use Rattle.paths.proofs.path.Tie as tie
 abbrev call : tie.Start → Call
 call s = record { n = s .args .n; sources = s .args .sources .now; targets = s .args .targets .now; u = s .args .u; v = s .args .v; room = s .args .room .now; numbers = s .args .numbers .now; words = s .args .words .now }
 
-abbrev asked : tie.Else1 → Call
+abbrev asked : (c : tie.Else1) → Call
 asked c = call (c .before .before .before .before .before .before .before)
 
 pass : (c : tie.Else1) → firstRefusal (asked c) ≡ 0
 pass c = sym (c .before .refusal .ensures) ∙ c .if1 .left
+
+-- the answer may be settled
+ask : (c : tie.After-find) → SettleAsk (collection (asked (c .before .before))) (asked (c .before .before) .u) (asked (c .before .before) .v) (c .find .last .1 .1 .1 .1 .0)
+ask c = record { known = c .find .ensures .known; vertex = admitted (asked (c .before .before)) (pass (c .before .before)) .v-low }
 
 refusal-requires : tie.Need-refusal-requires
 refusal-requires c κs = search needs
@@ -25,7 +31,7 @@ find-requires : tie.Need-find-requires
 find-requires c κs = find-ask (asked (c .before)) (pass (c .before))
 
 settle-requires : tie.Need-settle-requires
-settle-requires c κs = record { known = c .before .before .before .before .find .ensures .known; vertex = admitted (asked (c .before .before .before .before .before .before)) (pass (c .before .before .before .before .before .before)) .v-low }
+settle-requires c κs = let a = asked (c .before .before .before .before .before .before) in (arrows (collection a), a .u, ask (c .before .before .before .before))
 
 clear-requires : tie.Need-clear-requires
 clear-requires c κs = let at-find = c .before .before .before .before .before .before .before .before .before in clear-ask (asked (at-find .before .before)) (pass (at-find .before .before)) _ (at-find .find .ensures .long)
@@ -44,7 +50,8 @@ returns-2 c =
     let at-clear = c .before .before .before .before in
     let at-settle = at-clear .before .before .before .before .before in
     let at-find = at-settle .before .before .before .before .before in
-    settled-promise _ (pass (at-find .before .before)) _ _ _ _ (at-find .find .ensures) (at-clear .clear .ensures) (at-settle .settle .result) (at-settle .settle .ensures)
+    settled-promise _ (pass (at-find .before .before)) _ _ _ _ (at-find .find .ensures) (at-clear .clear .ensures) (at-settle .settle .result)
+    (let a = asked (at-find .before .before) in at-settle .settle .ensures (arrows (collection a)) (a .u) (ask at-find))
 
 pub path-spec : {M : Type 1} → statement M
 path-spec =

@@ -1,4 +1,3 @@
-use mathlib.Core.Path.{refl}
 use native.Mathlib.Omega.{arith}
 use borrow.Author.Needs.{needs}
 use Rattle.parts.proofs.Dividing.{divide-trim, divide-sweep, divide-share, divide-all}
@@ -25,41 +24,44 @@ slice-read-v c = search needs
 
 cast-v : tie.Need-cast-v
 cast-v c =
-    let begins = c .before .before .before .before .before in
-    omega (arith, begins .pre .stage .placed .low (begins .args .h) (begins .pre .first .low), begins .pre .stage .tables .small, begins .pre .stage .long)
+    let begins = c .before .before .before in
+    omega (arith, begins .pre .1 .stage .placed .low (begins .args .h) (begins .pre .1 .first .low), begins .pre .1 .stage .tables .small, begins .pre .1 .stage .long)
 
 add-q : tie.Need-add-q
 add-q c =
-    let begins = c .before .before .before .before .before in
-    omega (arith, begins .pre .stage .placed .low (begins .args .h) (begins .pre .first .low), begins .pre .stage .tables .small, begins .pre .stage .long)
+    let begins = c .before .before .before in
+    omega (arith, begins .pre .1 .stage .placed .low (begins .args .h) (begins .pre .1 .first .low), begins .pre .1 .stage .tables .small, begins .pre .1 .stage .long)
 
 mul-q : tie.Need-mul-q
 mul-q c =
-    let begins = c .before .before .before .before .before in
-    omega (arith, begins .pre .stage .placed .low (begins .args .h) (begins .pre .first .low), begins .pre .stage .tables .small, begins .pre .stage .long)
+    let begins = c .before .before .before in
+    omega (arith, begins .pre .1 .stage .placed .low (begins .args .h) (begins .pre .1 .first .low), begins .pre .1 .stage .tables .small, begins .pre .1 .stage .long)
 
 slice-read-q : tie.Need-slice-read-q
 slice-read-q c =
-    let begins = c .before .before .before .before .before .before in
-    omega (arith, begins .pre .stage .placed .low (begins .args .h) (begins .pre .first .low), begins .pre .stage .tables .small, begins .pre .stage .long)
+    let begins = c .before .before .before .before in
+    omega (arith, begins .pre .1 .stage .placed .low (begins .args .h) (begins .pre .1 .first .low), begins .pre .1 .stage .tables .small, begins .pre .1 .stage .long)
 
 prune-requires : tie.Need-prune-requires
 prune-requires c κs =
-    let begins = c .before .before .before .before .before .before .before in
-    divide-trim (begins .pre) (λ e. refl)
+    let begins = c .before .before .before .before .before in
+    (begins .pre .0, divide-trim (begins .pre .1))
 
 swept-requires : tie.Need-swept-requires
 swept-requires c κs =
     let at-prune = c .before .before .before .before in
-    let begins = at-prune .before .before .before .before .before .before .before .before in
-    divide-sweep (begins .pre) (at-prune .prune .ensures)
+    let begins = at-prune .before .before .before .before .before .before in
+    let a = begins .pre .1 in
+    (begins .pre .0, divide-sweep a (at-prune .prune .ensures (begins .pre .0) (divide-trim a)))
 
 share-requires : tie.Need-share-requires
 share-requires c κs =
     let at-swept = c .before .before .before .before .before in
     let at-prune = at-swept .before .before .before .before .before in
-    let begins = at-prune .before .before .before .before .before .before .before .before in
-    divide-share (begins .pre) (at-prune .prune .ensures) (at-swept .swept .ensures)
+    let begins = at-prune .before .before .before .before .before .before in
+    let a = begins .pre .1 in
+    let z = at-prune .prune .ensures (begins .pre .0) (divide-trim a) in
+    divide-share a z (at-swept .swept .ensures (begins .pre .0) (divide-sweep a z))
 
 same-length : tie.Need-same-length
 same-length c = search needs
@@ -71,8 +73,9 @@ returns : tie.Need-returns
 returns c =
     let at-swept = c .before .before .before .before .before .before .before .before in
     let at-prune = at-swept .before .before .before .before .before in
-    let begins = at-prune .before .before .before .before .before .before .before .before in
-    divide-all (begins .pre) (at-prune .prune .ensures) (at-swept .swept .ensures) (c .before .before .share .ensures)
+    λ e a.
+    let z = at-prune .prune .ensures e (divide-trim a) in
+    divide-all a z (at-swept .swept .ensures e (divide-sweep a z)) (c .before .before .share .ensures)
 
 pub divide-spec : {M : Type 1} → statement M
 divide-spec =

@@ -1,6 +1,6 @@
-use mathlib.Core.Path.{refl}
 use native.Mathlib.Omega.{arith}
 use borrow.Author.Needs.{needs}
+use Rattle.graph.specs.Arrows.{back, sized}
 use Rattle.parts.proofs.Splitting.{first-ask, second-ask, queued}
 use Rattle.parts.proofs.Drawing.{first-erase, second-erase, cut-all}
 use Rattle.parts.proofs.drawn.cut.Statement.{statement}
@@ -14,14 +14,15 @@ add-rx-2 c = search needs
 
 search-requires : tie.Need-search-requires
 search-requires c κs =
-    let begins = c .before .before .before .before .before in
-    first-ask (begins .pre .split) (λ e. refl)
+    let begins = c .before .before .before in
+    (sized (begins .args .m) (begins .pre .0), first-ask (begins .pre .1 .split))
 
 erase-requires : tie.Need-erase-requires
 erase-requires c κs =
     let at-search = c .before .before .before .before in
-    let begins = at-search .before .before .before .before .before .before in
-    first-erase (begins .pre .split) (at-search .search .ensures) (begins .pre .marks)
+    let begins = at-search .before .before .before .before in
+    let a = begins .pre .1 in
+    first-erase (a .split) (at-search .search .ensures (sized (begins .args .m) (begins .pre .0)) (first-ask (a .split))) (a .marks)
 
 add-search : tie.Need-add-search
 add-search c = search needs
@@ -32,28 +33,36 @@ add-search-2 c = search needs
 search-requires-2 : tie.Need-search-requires-2
 search-requires-2 c κs =
     let at-search = c .before .before .before .before .before .before .before .before in
-    let begins = at-search .before .before .before .before .before .before in
-    second-ask (begins .pre .split) (at-search .search .ensures) (λ e. refl)
+    let begins = at-search .before .before .before .before in
+    let g = sized (begins .args .m) (begins .pre .0) in
+    let a = begins .pre .1 .split in
+    (back g, second-ask a (at-search .search .ensures g (first-ask a)))
 
 erase-requires-2 : tie.Need-erase-requires-2
 erase-requires-2 c κs =
     let at-search2 = c .before .before .before .before in
     let at-erase = at-search2 .before .before .before .before in
     let at-search = at-erase .before .before .before .before .before in
-    let begins = at-search .before .before .before .before .before .before in
-    second-erase (begins .pre .split) (at-search .search .ensures) (begins .pre .marks) (at-erase .erase .ensures) (at-search2 .search2 .ensures)
+    let begins = at-search .before .before .before .before in
+    let g = sized (begins .args .m) (begins .pre .0) in
+    let a = begins .pre .1 .split in
+    let s = at-search .search .ensures g (first-ask a) in
+    second-erase a s (begins .pre .1 .marks) (at-erase .erase .ensures) (at-search2 .search2 .ensures (back g) (second-ask a s))
 
 add-label : tie.Need-add-label
 add-label c =
-    let begins = c .before .before .before .before .before .before .before .before .before .before .before .before .before .before .before .before .before .before .before .before .before .before .before in
-    omega (arith, begins .pre .split .room)
+    let begins = c .before .before .before .before .before .before .before .before .before .before .before .before .before .before .before .before .before .before .before .before .before in
+    omega (arith, begins .pre .1 .split .room)
 
 label-requires : tie.Need-label-requires
 label-requires c κs =
     let at-search2 = c .before .before .before .before .before .before .before .before in
     let at-search = at-search2 .before .before .before .before .before .before .before .before .before in
-    let begins = at-search .before .before .before .before .before .before in
-    record { queued = queued (begins .pre .split) (at-search .search .ensures) (at-search2 .search2 .ensures); part = omega (arith, begins .pre .split .part, begins .pre .split .owned .below (begins .args .p) (begins .pre .split .start), begins .pre .split .live) }
+    let begins = at-search .before .before .before .before in
+    let g = sized (begins .args .m) (begins .pre .0) in
+    let a = begins .pre .1 .split in
+    let s = at-search .search .ensures g (first-ask a) in
+    record { queued = queued a s (at-search2 .search2 .ensures (back g) (second-ask a s)); part = omega (arith, a .part, a .owned .below (begins .args .p) (a .start), a .live) }
 
 same-length : tie.Need-same-length
 same-length c = search needs
@@ -67,9 +76,12 @@ returns c =
     let at-search2 = at-erase2 .before .before .before .before .before in
     let at-erase = at-search2 .before .before .before .before in
     let at-search = at-erase .before .before .before .before .before in
-    let begins = at-search .before .before .before .before .before .before in
+    let begins = at-search .before .before .before .before in
     let z = c .before .before .label .ensures in
-    cut-all (begins .pre .split) (at-search .search .ensures) (begins .pre .marks) (at-erase .erase .ensures) (at-search2 .search2 .ensures) (at-erase2 .erase2 .ensures) (z .lowest) (z .named)
+    λ e a.
+    let g = sized (begins .args .m) e in
+    let s = at-search .search .ensures g (first-ask (a .split)) in
+    cut-all (a .split) s (a .marks) (at-erase .erase .ensures) (at-search2 .search2 .ensures (back g) (second-ask (a .split) s)) (at-erase2 .erase2 .ensures) (z .lowest) (z .named)
 
 pub cut-spec : {M : Type 1} → statement M
 cut-spec =

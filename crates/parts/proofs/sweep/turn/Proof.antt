@@ -26,41 +26,42 @@ slice-read-p c = search needs
 
 cast-p : tie.Need-cast-p
 cast-p c =
-    let begins = c .before .before .before .before in
-    omega (arith, top-le (begins .pre .stage), begins .pre .stage .tables .small, begins .pre .stage .long, begins .pre .stage .placed .low (begins .args .i) (begins .pre .low))
+    let begins = c .before .before in
+    omega (arith, top-le (begins .pre .1 .stage), begins .pre .1 .stage .tables .small, begins .pre .1 .stage .long, begins .pre .1 .stage .placed .low (begins .args .i) (begins .pre .1 .low))
 
 add-if1 : tie.Need-add-if1
 add-if1 c =
-    let begins = c .before .before .before .before in
-    omega (arith, top-le (begins .pre .stage), begins .pre .stage .tables .small, begins .pre .stage .long, begins .pre .stage .placed .low (begins .args .i) (begins .pre .low))
+    let begins = c .before .before in
+    omega (arith, top-le (begins .pre .1 .stage), begins .pre .1 .stage .tables .small, begins .pre .1 .stage .long, begins .pre .1 .stage .placed .low (begins .args .i) (begins .pre .1 .low))
 
 mul-if1 : tie.Need-mul-if1
 mul-if1 c =
-    let begins = c .before .before .before .before in
-    omega (arith, top-le (begins .pre .stage), begins .pre .stage .tables .small, begins .pre .stage .long, begins .pre .stage .placed .low (begins .args .i) (begins .pre .low))
+    let begins = c .before .before in
+    omega (arith, top-le (begins .pre .1 .stage), begins .pre .1 .stage .tables .small, begins .pre .1 .stage .long, begins .pre .1 .stage .placed .low (begins .args .i) (begins .pre .1 .low))
 
 slice-read-if1 : tie.Need-slice-read-if1
 slice-read-if1 c =
-    let begins = c .before .before .before .before .before in
-    omega (arith, top-le (begins .pre .stage), begins .pre .stage .tables .small, begins .pre .stage .long, begins .pre .stage .placed .low (begins .args .i) (begins .pre .low))
+    let begins = c .before .before .before in
+    omega (arith, top-le (begins .pre .1 .stage), begins .pre .1 .stage .tables .small, begins .pre .1 .stage .long, begins .pre .1 .stage .placed .low (begins .args .i) (begins .pre .1 .low))
 
 returns : tie.Need-returns
-returns c = inr (c .if1 .taken, refl, refl)
+returns c = λ e a. inr (c .if1 .taken, refl, refl)
 
 cast-split : tie.Need-cast-split
 cast-split c =
-    let begins = c .before .before .before .before .before .before .before in
-    omega (arith, top-le (begins .pre .stage), begins .pre .stage .tables .small, begins .pre .stage .long, begins .pre .stage .placed .low (begins .args .i) (begins .pre .low))
+    let begins = c .before .before .before .before .before in
+    omega (arith, top-le (begins .pre .1 .stage), begins .pre .1 .stage .tables .small, begins .pre .1 .stage .long, begins .pre .1 .stage .placed .low (begins .args .i) (begins .pre .1 .low))
 
 split-requires : tie.Need-split-requires
 split-requires c κs =
-    let begins = c .before .before .before .before .before .before .before in
-    split-ask (begins .pre .stage) (begins .pre .stage .placed .low (begins .args .i) (begins .pre .low)) (c .before .if1 .left) (begins .pre .part)
+    let begins = c .before .before .before .before .before in
+    let a = begins .pre .1 in
+    (begins .pre .0, split-ask (a .stage) (a .stage .placed .low (begins .args .i) (a .low)) (c .before .if1 .left) (a .part))
 
 add-result : tie.Need-add-result
 add-result c =
-    let begins = c .before .before .before .before .before .before .before .before .before .before in
-    omega (arith, top-le (begins .pre .stage), begins .pre .stage .tables .small, begins .pre .stage .long, begins .pre .stage .placed .low (begins .args .i) (begins .pre .low))
+    let begins = c .before .before .before .before .before .before .before .before in
+    omega (arith, top-le (begins .pre .1 .stage), begins .pre .1 .stage .tables .small, begins .pre .1 .stage .long, begins .pre .1 .stage .placed .low (begins .args .i) (begins .pre .1 .low))
 
 same-length : tie.Need-same-length
 same-length c = search needs
@@ -68,7 +69,8 @@ same-length c = search needs
 returns-2 : tie.Need-returns-2
 returns-2 c =
     let at-if1 = c .before .before .before .before in
-    inl (at-if1 .if1 .left, refl, c .before .before .split .ensures)
+    let begins = at-if1 .before .before .before .before in
+    λ e a. inl (at-if1 .if1 .left, refl, c .before .before .split .ensures e (split-ask (a .stage) (a .stage .placed .low (begins .args .i) (a .low)) (at-if1 .if1 .left) (a .part)))
 
 pub turn-spec : {M : Type 1} → statement M
 turn-spec =

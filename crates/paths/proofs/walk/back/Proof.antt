@@ -2,48 +2,52 @@ use Prim.Native.Nat.{ℕ, _+_, _<_}
 use mathlib.Core.Path.{_≡_, subst}
 use native.Mathlib.Omega.{arith}
 use lib.ListN.{length, getD}
-use Rattle.graph.specs.Graph.{graph}
-use Rattle.paths.specs.Walk.{reverse}
+use Rattle.graph.specs.Arrows.{on}
+use Rattle.paths.specs.Walk.{sourced, EveryFrom, reverse, sourceAt, WalkAsk}
 use Rattle.paths.proofs.Walks.{Walking, Turn, walk-none, back-turn, back-ask, back-place, back-edge, back-source, back-step, walk-all}
 use Rattle.paths.proofs.walk.back.Statement.{statement}
 use Rattle.paths.proofs.walk.back.Tie as tie
 
 abbrev Inv-loop : tie.InvT-loop
-Inv-loop n sources targets u v w d0 room₀ rx eb x₀ d₀ room x d = Walking (graph n sources targets) u v d0 room₀ x d room
+Inv-loop n sources v w d0 room₀ rx eb x₀ d₀ room x d = EveryFrom n sources (λ g u. WalkAsk g u v d0 w room₀ → Walking g u v d0 room₀ x d room)
 
 abbrev μ-loop : tie.MeasureT-loop
-μ-loop n sources targets u v w d0 room₀ rx eb x₀ d₀ room x d = d
+μ-loop n sources v w d0 room₀ rx eb x₀ d₀ room x d = d
+
+-- how far the walk has come
+come : (c : tie.At-loop Inv-loop μ-loop) → (let s = c .before .before .before .before in Walking (on (s .args .n) (sourced (s .args .sources .now) (s .pre .0))) (s .pre .1) (s .args .v) (s .args .d0) (s .args .room .now) (c .loop .x) (c .loop .d) (c .loop .room))
+come c = let s = c .before .before .before .before in c .loop .inv (s .pre .0) (s .pre .1) (s .pre .2)
 
 -- what the turn reads
-at : (c : tie.In-loop Inv-loop μ-loop) → (let s = c .before .before .before .before .before .before in Turn (graph (s .args .n) (s .args .sources .now) (s .args .targets .now)) (s .args .w .now) (c .before .loop .x))
-at c = back-turn (c .before .before .before .before .before .before .pre) (c .loop-test .taken) (c .before .loop .inv)
+at : (c : tie.In-loop Inv-loop μ-loop) → (let s = c .before .before .before .before .before in Turn (on (s .args .n) (sourced (s .args .sources .now) (s .pre .0))) (s .args .w .now) (c .before .loop .x))
+at c = back-turn (c .before .before .before .before .before .pre .2) (c .loop-test .taken) (come (c .before))
 
 -- the place of the edge that was found, the edge, and its source
-place : (c : tie.After-first Inv-loop μ-loop) → c .first .result < length (c .before .before .before .before .before .before .before .before .before .args .sources .now)
-place c = back-place (c .before .before .before .before .before .before .before .before .before .pre) (c .before .before .before .loop-test .taken) (c .before .before .before .before .loop .inv) (c .first .ensures)
+place : (c : tie.After-first Inv-loop μ-loop) → c .first .result < length (c .before .before .before .before .before .before .before .before .args .sources .now)
+place c = back-place (c .before .before .before .before .before .before .before .before .pre .2) (c .before .before .before .loop-test .taken) (come (c .before .before .before .before)) (c .first .ensures)
 
 edge : (c : tie.After-first Inv-loop μ-loop)
-    → (let s = c .before .before .before .before .before .before .before .before .before in getD (s .args .w .now) (reverse (graph (s .args .n) (s .args .sources .now) (s .args .targets .now)) + s .args .n + 1 + c .first .result) 0 < length (s .args .sources .now))
-edge c = back-edge (c .before .before .before .before .before .before .before .before .before .pre) (c .before .before .before .loop-test .taken) (c .before .before .before .before .loop .inv) (c .first .ensures)
+    → (let s = c .before .before .before .before .before .before .before .before in getD (s .args .w .now) (reverse (on (s .args .n) (sourced (s .args .sources .now) (s .pre .0))) + s .args .n + 1 + c .first .result) 0 < length (s .args .sources .now))
+edge c = back-edge (c .before .before .before .before .before .before .before .before .pre .2) (c .before .before .before .loop-test .taken) (come (c .before .before .before .before)) (c .first .ensures)
 
 source : (c : tie.After-first Inv-loop μ-loop)
-    → (let s = c .before .before .before .before .before .before .before .before .before in getD (s .args .sources .now) (getD (s .args .w .now) (reverse (graph (s .args .n) (s .args .sources .now) (s .args .targets .now)) + s .args .n + 1 + c .first .result) 0) 0 < s .args .n)
-source c = back-source (c .before .before .before .before .before .before .before .before .before .pre) (c .before .before .before .loop-test .taken) (c .before .before .before .before .loop .inv) (c .first .ensures)
+    → (let s = c .before .before .before .before .before .before .before .before in sourceAt (s .args .sources .now) (s .args .w .now) (reverse (on (s .args .n) (sourced (s .args .sources .now) (s .pre .0))) + s .args .n + 1) (c .first .result) < s .args .n)
+source c = back-source (c .before .before .before .before .before .before .before .before .pre .2) (c .before .before .before .loop-test .taken) (come (c .before .before .before .before)) (c .first .ensures)
 
 add-rx : tie.Need-add-rx Inv-loop μ-loop
-add-rx c = omega (arith, c .before .before .before .before .pre .known .room)
+add-rx c = omega (arith, c .before .before .before .pre .2 .known .room)
 
 add-rx-2 : tie.Need-add-rx-2 Inv-loop μ-loop
-add-rx-2 c = omega (arith, c .before .before .before .before .pre .known .room)
+add-rx-2 c = omega (arith, c .before .before .before .pre .2 .known .room)
 
 add-eb : tie.Need-add-eb Inv-loop μ-loop
-add-eb c = omega (arith, c .before .before .before .before .pre .known .room)
+add-eb c = omega (arith, c .before .before .before .pre .2 .known .room)
 
 add-eb-2 : tie.Need-add-eb-2 Inv-loop μ-loop
-add-eb-2 c = omega (arith, c .before .before .before .before .pre .known .room)
+add-eb-2 c = omega (arith, c .before .before .before .pre .2 .known .room)
 
 loop-holds : tie.Need-loop-holds Inv-loop μ-loop
-loop-holds c = walk-none (c .before .before .before .before .pre)
+loop-holds c = λ a u q. walk-none q
 
 sub-d : tie.Need-sub-d Inv-loop μ-loop
 sub-d c = omega arith
@@ -79,7 +83,7 @@ mul-first : tie.Need-mul-first Inv-loop μ-loop
 mul-first c = omega (arith, at (c .before .before))
 
 first-requires : tie.Need-first-requires Inv-loop μ-loop
-first-requires c κs = back-ask (c .before .before .before .before .before .before .before .before .pre) (c .before .before .loop-test .taken) (c .before .before .before .loop .inv)
+first-requires c κs = back-ask (c .before .before .before .before .before .before .before .pre .2) (c .before .before .loop-test .taken) (come (c .before .before .before))
 
 add-e : tie.Need-add-e Inv-loop μ-loop
 add-e c = omega (arith, at (c .before .before .before), place (c))
@@ -91,10 +95,10 @@ shared-slice-read-e : tie.Need-shared-slice-read-e Inv-loop μ-loop
 shared-slice-read-e c = omega (arith, at (c .before .before .before .before), place (c .before))
 
 mul-room : tie.Need-mul-room Inv-loop μ-loop
-mul-room c = omega (arith, c .before .before .before .before .before .loop .inv .most, c .before .before .before .before .before .loop .inv .long, c .before .before .before .before .before .before .before .before .before .before .pre .fits, c .before .before .before .before .loop-test .taken)
+mul-room c = omega (arith, come (c .before .before .before .before .before) .most, come (c .before .before .before .before .before) .long, c .before .before .before .before .before .before .before .before .before .pre .2 .fits, c .before .before .before .before .loop-test .taken)
 
 slice-write-room : tie.Need-slice-write-room Inv-loop μ-loop
-slice-write-room c = omega (arith, c .before .before .before .before .before .loop .inv .most, c .before .before .before .before .before .loop .inv .long, c .before .before .before .before .before .before .before .before .before .before .pre .fits, c .before .before .before .before .loop-test .taken)
+slice-write-room c = omega (arith, come (c .before .before .before .before .before) .most, come (c .before .before .before .before .before) .long, c .before .before .before .before .before .before .before .before .before .pre .2 .fits, c .before .before .before .before .loop-test .taken)
 
 cast-x : tie.Need-cast-x Inv-loop μ-loop
 cast-x c = omega (arith, at (c .before .before .before .before), edge (c .before))
@@ -112,16 +116,16 @@ loop-less : tie.Need-loop-less Inv-loop μ-loop
 loop-less c = omega arith
 
 loop-again : tie.Need-loop-again Inv-loop μ-loop
-loop-again c = back-step (c .before .before .before .before .before .before .before .before .before .before .before .pre) (c .before .before .before .before .before .loop-test .taken) (c .before .before .before .before .before .before .loop .inv) (c .before .before .first .ensures)
+loop-again c = λ a u q. back-step q (c .before .before .before .before .before .loop-test .taken) (c .before .before .before .before .before .before .loop .inv a u q) (c .before .before .first .ensures)
 
 same-length : tie.Need-same-length Inv-loop μ-loop
-same-length c = c .before .loop .inv .long
+same-length c = come (c .before) .long
 
 returns : tie.Need-returns Inv-loop μ-loop
-returns c = let s = c .before .before .before .before .before .before in
+returns c = let s = c .before .before .before .before .before in
     let l = c .before .loop in
     let e : l .d ≡ 0 = omega arith in
-    walk-all (s .pre) (subst (λ (y : ℕ). Walking (graph (s .args .n) (s .args .sources .now) (s .args .targets .now)) (s .args .u) (s .args .v) (s .args .d0) (s .args .room .now) (l .x) y (l .room)) e (l .inv))
+    λ a u q. walk-all q (subst (λ (y : ℕ). Walking (on (s .args .n) (sourced (s .args .sources .now) a)) u (s .args .v) (s .args .d0) (s .args .room .now) (l .x) y (l .room)) e (l .inv a u q))
 
 pub back-spec : {M : Type 1} → statement M
 back-spec =

@@ -1,20 +1,48 @@
-use mathlib.Core.Path.{refl}
 use borrow.Author.Needs.{needs}
-use Rattle.paths.proofs.Walks.{both-ask, fill-room, measure-ask, find-all}
+use Rattle.graph.specs.Graph.{Graph, graph}
+use Rattle.graph.specs.Arrows.{arrows}
+use Rattle.paths.specs.Walk.{Prepared}
+use Rattle.paths.proofs.Indexes.{one-ask, numbers-ask, indexed}
+use Rattle.paths.proofs.Walks.{fill-room, measure-ask, find-all}
 use Rattle.paths.proofs.walk.find.Statement.{statement}
 use Rattle.paths.proofs.walk.find.Tie as tie
 
-both-requires : tie.Need-both-requires
-both-requires c κs = both-ask (λ e. refl) (c .before .before .before .before .pre)
+abbrev table : (s : tie.Start) → Graph
+table s = graph (s .args .n) (s .args .sources .now) (s .args .targets .now)
 
-add-b : tie.Need-add-b
-add-b c = search needs
+all : (c : tie.After-measure) → Prepared (table (c .before .before .before .before .before .before .before .before .before .before .before .before .before .before .before .before .before)) (c .before .before .before .before .before .before .before .before .before .before .before .before .before .before .before .before .before .args .u) (c .before .before .before .before .before .before .before .before .before .before .before .before .before .before .before .before .before .args .w .now) (c .measure .last .1 .0)
+all c =
+    let s = c .before .before .before .before .before .before .before .before .before .before .before .before .before .before .before .before .before in
+    let x = indexed (s .pre) (c .before .before .before .before .before .before .before .before .before .before .before .before .one .ensures) (c .before .before .before .before .before .before .before .before .numbers .ensures) in
+    let y = c .before .before .before .before .fill .ensures in
+    find-all (s .pre) x y (c .measure .ensures (arrows (table s)) (measure-ask (s .pre) x y))
 
-add-b-2 : tie.Need-add-b-2
-add-b-2 c = search needs
+one-requires : tie.Need-one-requires
+one-requires c κs = one-ask (c .before .before .before .before .pre)
+
+add-k : tie.Need-add-k
+add-k c = search needs
+
+add-k-2 : tie.Need-add-k-2
+add-k-2 c = search needs
 
 mul-b : tie.Need-mul-b
 mul-b c = search needs
+
+mul-numbers : tie.Need-mul-numbers
+mul-numbers c = search needs
+
+sub-numbers : tie.Need-sub-numbers
+sub-numbers c = search needs
+
+part-numbers-start : tie.Need-part-numbers-start
+part-numbers-start c = search needs
+
+part-numbers-end : tie.Need-part-numbers-end
+part-numbers-end c = search needs
+
+numbers-requires : tie.Need-numbers-requires
+numbers-requires c κs = numbers-ask (c .before .before .before .before .before .before .before .before .pre) (c .before .before .before .one .ensures)
 
 add-far : tie.Need-add-far
 add-far c = search needs
@@ -23,25 +51,32 @@ cast-far : tie.Need-cast-far
 cast-far c = search needs
 
 fill-requires : tie.Need-fill-requires
-fill-requires c κs = fill-room (λ e. refl) (c .before .before .before .before .before .before .before .before .pre) (c .before .before .before .both .ensures)
+fill-requires c κs = fill-room (c .before .before .before .before .before .before .before .before .before .before .before .before .pre) (indexed (c .before .before .before .before .before .before .before .before .before .before .before .before .pre) (c .before .before .before .before .before .before .before .one .ensures) (c .before .before .before .numbers .ensures))
 
 measure-requires : tie.Need-measure-requires
-measure-requires c κs = measure-ask (λ e. refl) (c .before .before .before .before .before .before .before .before .before .before .before .before .pre) (c .before .before .before .before .before .before .before .both .ensures) (c .before .before .before .fill .ensures)
+measure-requires c κs =
+    let s = c .before .before .before .before .before .before .before .before .before .before .before .before .before .before .before .before in
+    (arrows (table s), measure-ask (s .pre) (indexed (s .pre) (c .before .before .before .before .before .before .before .before .before .before .before .one .ensures) (c .before .before .before .before .before .before .before .numbers .ensures)) (c .before .before .before .fill .ensures))
 
 same-length : tie.Need-same-length
-same-length c = find-all (λ e. refl) (c .before .before .before .before .before .before .before .before .before .before .before .before .before .before .before .pre) (c .before .before .before .before .before .before .before .before .before .before .both .ensures) (c .before .before .before .before .before .before .fill .ensures) (c .before .before .measure .ensures) .long
+same-length c = all (c .before .before) .long
 
 returns : tie.Need-returns
-returns c = find-all (λ e. refl) (c .before .before .before .before .before .before .before .before .before .before .before .before .before .before .before .pre) (c .before .before .before .before .before .before .before .before .before .before .both .ensures) (c .before .before .before .before .before .before .fill .ensures) (c .before .before .measure .ensures)
+returns c = all (c .before .before)
 
 pub find-spec : {M : Type 1} → statement M
 find-spec =
     tie.close
     (tie.spec
-    both-requires
-    add-b
-    add-b-2
+    one-requires
+    add-k
+    add-k-2
     mul-b
+    mul-numbers
+    sub-numbers
+    part-numbers-start
+    part-numbers-end
+    numbers-requires
     add-far
     cast-far
     fill-requires

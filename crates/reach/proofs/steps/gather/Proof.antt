@@ -1,7 +1,6 @@
 use Prim.Native.Nat.{_≤_, _-_, _+_}
 use native.Mathlib.Omega.{arith}
 use mathlib.Core.Path.{_≡_}
-use Rattle.graph.specs.Refusal.{given}
 use Rattle.reach.specs.Steps.{Gathered}
 use Rattle.reach.proofs.Between.{gathered-none, gathered-more}
 use Rattle.reach.proofs.steps.gather.Statement.{statement}

@@ -1,6 +1,7 @@
 use native.Mathlib.Omega.{arith}
 use mathlib.Core.Path.{_∙_}
 use borrow.Author.Needs.{needs}
+use Rattle.graph.specs.Arrows.{sized}
 use Rattle.reach.proofs.Result.{spread-ask, gather-ask, found}
 use Rattle.reach.proofs.steps.run.Statement.{statement}
 use Rattle.reach.proofs.steps.run.Tie as tie
@@ -10,9 +11,6 @@ add-b c = search needs
 
 add-b-2 : tie.Need-add-b-2
 add-b-2 c = search needs
-
-one-requires : tie.Need-one-requires
-one-requires c κs = search needs
 
 colour-requires : tie.Need-colour-requires
 colour-requires c κs = search needs
@@ -28,14 +26,13 @@ spread-requires c κs =
     let at-begin = c .before .before .before in
     let at-choose = at-begin .before .before .before .before .before in
     let at-colour = at-choose .before .before .before .before in
-    let at-one = at-colour .before .before .before .before in
-    let begins = at-one .before .before .before .before .before .before .before .before in
-    spread-ask _ _ _ _ _ _ _ (begins .pre) _ (at-one .one .ensures) _ _ (at-colour .colour .ensures) (at-choose .choose .ensures) _ _ (at-begin .begin .ensures)
+    let begins = at-colour .before .before .before .before .before .before in
+    (sized (begins .args .m) (begins .pre .0), spread-ask _ _ _ _ _ (begins .pre .1) _ _ (at-colour .colour .ensures) (at-choose .choose .ensures) _ _ (at-begin .begin .ensures))
 
 add-gather : tie.Need-add-gather
 add-gather c =
-    let begins = c .before .before .before .before .before .before .before .before .before .before .before .before .before .before .before .before .before .before .before .before .before .before .before .before .before .before .before .before in
-    omega (arith, begins .pre)
+    let begins = c .before .before .before .before .before .before .before .before .before .before .before .before .before .before .before .before .before .before .before .before .before .before in
+    omega (arith, begins .pre .1 .table)
 
 gather-requires : tie.Need-gather-requires
 gather-requires c κs =
@@ -43,17 +40,19 @@ gather-requires c κs =
     let at-begin = at-spread .before .before .before .before in
     let at-choose = at-begin .before .before .before .before .before in
     let at-colour = at-choose .before .before .before .before in
-    let at-one = at-colour .before .before .before .before in
-    let begins = at-one .before .before .before .before .before .before .before .before in
-    gather-ask _ _ _ _ _ _ _ (begins .pre) _ (at-one .one .ensures) _ _ (at-colour .colour .ensures) (at-choose .choose .ensures) _ _ (at-begin .begin .ensures) _ _ _ (at-spread .spread .ensures)
+    let begins = at-colour .before .before .before .before .before .before in
+    let ask = spread-ask _ _ _ _ _ (begins .pre .1) _ _ (at-colour .colour .ensures) (at-choose .choose .ensures) _ _ (at-begin .begin .ensures) in
+    gather-ask _ _ _ _ _ (begins .pre .1) _ _ (at-colour .colour .ensures) (at-choose .choose .ensures) _ _ (at-begin .begin .ensures) _ _ _ (at-spread .spread .ensures (sized (begins .args .m) (begins .pre .0)) ask)
 
 same-length : tie.Need-same-length
 same-length c =
     let at-spread = c .before .before .before .before .before .before .before in
     let at-begin = at-spread .before .before .before .before in
-    let at-colour = at-begin .before .before .before .before .before .before .before .before .before in
-    let at-one = at-colour .before .before .before .before in
-    at-spread .spread .ensures .grew .kept .long ∙ at-begin .begin .ensures .grew .kept .long ∙ at-colour .colour .ensures .frame .long ∙ at-one .one .ensures .long
+    let at-choose = at-begin .before .before .before .before .before in
+    let at-colour = at-choose .before .before .before .before in
+    let begins = at-colour .before .before .before .before .before .before in
+    let ask = spread-ask _ _ _ _ _ (begins .pre .1) _ _ (at-colour .colour .ensures) (at-choose .choose .ensures) _ _ (at-begin .begin .ensures) in
+    at-spread .spread .ensures (sized (begins .args .m) (begins .pre .0)) ask .grew .kept .long ∙ at-begin .begin .ensures .grew .kept .long ∙ at-colour .colour .ensures .frame .long
 
 same-length-2 : tie.Need-same-length-2
 same-length-2 c = search needs
@@ -65,9 +64,10 @@ returns c =
     let at-begin = at-spread .before .before .before .before in
     let at-choose = at-begin .before .before .before .before .before in
     let at-colour = at-choose .before .before .before .before in
-    let at-one = at-colour .before .before .before .before in
-    let begins = at-one .before .before .before .before .before .before .before .before in
-    found _ _ _ _ _ _ _ (begins .pre) _ (at-one .one .ensures) _ _ (at-colour .colour .ensures) (at-choose .choose .ensures) _ _ (at-begin .begin .ensures) _ _ _ (at-spread .spread .ensures) _ (at-gather .gather .ensures)
+    let begins = at-colour .before .before .before .before .before .before in
+    λ g q.
+    let ask = spread-ask _ _ _ _ _ q _ _ (at-colour .colour .ensures) (at-choose .choose .ensures) _ _ (at-begin .begin .ensures) in
+    found _ _ _ _ _ q _ _ (at-colour .colour .ensures) (at-choose .choose .ensures) _ _ (at-begin .begin .ensures) _ _ _ (at-spread .spread .ensures (sized (begins .args .m) g) ask) _ (at-gather .gather .ensures)
 
 pub run-spec : {M : Type 1} → statement M
 run-spec =
@@ -75,7 +75,6 @@ run-spec =
     (tie.spec
     add-b
     add-b-2
-    one-requires
     colour-requires
     choose-requires
     begin-requires

@@ -1,14 +1,11 @@
-use mathlib.Core.Path.{refl, ap, _∙_}
-use Prim.Native.Nat.{ℕ, _-_, _+_, _*_}
+use mathlib.Core.Path.{refl}
+use Prim.Native.Nat.{_+_, _*_}
 use native.Mathlib.Omega.{arith}
-use borrow.Author.Needs.{needs}
-use Rattle.graph.specs.Graph.{graph}
-use Prim.Native.Nat.{_%_}
-use Rattle.graph.specs.Pivot.{member}
-use Rattle.graph.specs.Sets.{members}
-use Rattle.parts.proofs.Drawing.{marks-within, marks-chosen}
-use Rattle.slices.proofs.Sweeping.{slice-ask}
+use Rattle.graph.specs.Arrows.{sized}
+use Rattle.parts.proofs.Drawing.{marks-within}
 use Rattle.slices.proofs.Slicing.{slice-start, slice-mark, slice-cuts, slice-done, slice-marks, slice-erase}
+use Rattle.slices.proofs.Drawing.{draw-slice, draw-done}
+use borrow.Author.Needs.{needs}
 use Rattle.slices.proofs.drawn.turn.Statement.{statement}
 use Rattle.slices.proofs.drawn.turn.Tie as tie
 
@@ -19,10 +16,10 @@ cast-select : tie.Need-cast-select
 cast-select c = search needs
 
 rem-select : tie.Need-rem-select
-rem-select c = let s = c .before .before .before .before .before .before in omega (arith, s .pre .some)
+rem-select c = let s = c .before .before .before .before in omega (arith, s .pre .1 .some)
 
 select-requires : tie.Need-select-requires
-select-requires c κs = let s = c .before .before .before .before .before .before in marks-within (s .pre .marks) (s .pre .uncut .tables .small) (s .pre .some) (c .before .next .result)
+select-requires c κs = let s = c .before .before .before .before in marks-within (s .pre .1 .marks) (s .pre .1 .uncut .tables .small) (s .pre .1 .some) (c .before .next .result)
 
 mul-r : tie.Need-mul-r
 mul-r c = search needs
@@ -34,16 +31,16 @@ cast-r : tie.Need-cast-r
 cast-r c = search needs
 
 search-requires : tie.Need-search-requires
-search-requires c κs = let s = c .before .before .before .before .before .before .before .before in let y = marks-chosen (s .pre .marks) (s .pre .uncut .tables .small) (s .pre .some) (s .args .state) (c .before .select .result) (c .before .select .ensures ∙ ap (λ (y : ℕ). member (s .args .n) (members (s .args .n) (s .args .words .now)) (y % s .args .left)) (c .before .before .before .next .ensures)) in slice-start (graph (s .args .n) (s .args .sources .now) (s .args .targets .now)) (s .args .b) (c .before .select .result) (s .args .q) (s .args .top) (5 * s .args .n + 5) (s .args .w .now) (slice-ask (s .pre .uncut) (c .before .select .result) (y .0) (y .1)) refl (λ e. refl)
+search-requires c κs = let s = c .before .before .before .before .before .before in (sized (s .args .m) (s .pre .0), slice-start (draw-slice (s .pre .1) (c .before .before .before .before .before .before .args .state) (c .before .before .before .next .ensures) (c .before .select .ensures)) refl)
 
 erase-requires : tie.Need-erase-requires
-erase-requires c κs = let s = c .before .before .before .before .before .before .before .before .before .before .before .before .before in let y = marks-chosen (s .pre .marks) (s .pre .uncut .tables .small) (s .pre .some) (s .args .state) (c .before .before .before .before .before .before .select .result) (c .before .before .before .before .before .before .select .ensures ∙ ap (λ (y : ℕ). member (s .args .n) (members (s .args .n) (s .args .words .now)) (y % s .args .left)) (c .before .before .before .before .before .before .before .before .next .ensures)) in slice-erase (graph (s .args .n) (s .args .sources .now) (s .args .targets .now)) (s .args .b) (c .before .before .before .before .before .before .select .result) (s .args .q) (s .args .top) (5 * s .args .n + 5) (s .args .w .now) (slice-ask (s .pre .uncut) (c .before .before .before .before .before .before .select .result) (y .0) (y .1)) _ _ _ (c .before .before .before .before .search .ensures) (s .args .words .now) (s .args .left) (s .pre .marks)
+erase-requires c κs = let s = c .before .before .before .before .before .before .before .before .before .before .before in let d = draw-slice (s .pre .1) (c .before .before .before .before .before .before .before .before .before .before .before .args .state) (c .before .before .before .before .before .before .before .before .next .ensures) (c .before .before .before .before .before .before .select .ensures) in let f = c .before .before .before .before .search .ensures (sized (s .args .m) (s .pre .0)) (slice-start d refl) in slice-erase (5 * s .args .n + 5) d f (s .pre .1 .marks)
 
 mark-requires : tie.Need-mark-requires
-mark-requires c κs = let s = c .before .before .before .before .before .before .before .before .before .before .before .before .before .before .before .before .before in let y = marks-chosen (s .pre .marks) (s .pre .uncut .tables .small) (s .pre .some) (s .args .state) (c .before .before .before .before .before .before .before .before .before .before .select .result) (c .before .before .before .before .before .before .before .before .before .before .select .ensures ∙ ap (λ (y : ℕ). member (s .args .n) (members (s .args .n) (s .args .words .now)) (y % s .args .left)) (c .before .before .before .before .before .before .before .before .before .before .before .before .next .ensures)) in slice-mark (graph (s .args .n) (s .args .sources .now) (s .args .targets .now)) (s .args .b) (c .before .before .before .before .before .before .before .before .before .before .select .result) (s .args .q) (s .args .top) (5 * s .args .n + 5) (s .args .w .now) (slice-ask (s .pre .uncut) (c .before .before .before .before .before .before .before .before .before .before .select .result) (y .0) (y .1)) refl (λ e. refl) _ _ _ (c .before .before .before .before .before .before .before .before .search .ensures)
+mark-requires c κs = let s = c .before .before .before .before .before .before .before .before .before .before .before .before .before .before .before in let d = draw-slice (s .pre .1) (c .before .before .before .before .before .before .before .before .before .before .before .before .before .before .before .args .state) (c .before .before .before .before .before .before .before .before .before .before .before .before .next .ensures) (c .before .before .before .before .before .before .before .before .before .before .select .ensures) in let f = c .before .before .before .before .before .before .before .before .search .ensures (sized (s .args .m) (s .pre .0)) (slice-start d refl) in slice-mark d refl f
 
 cuts-requires : tie.Need-cuts-requires
-cuts-requires c κs = let s = c .before .before .before .before .before .before .before .before .before .before .before .before .before .before .before .before .before .before .before .before .before in let y = marks-chosen (s .pre .marks) (s .pre .uncut .tables .small) (s .pre .some) (s .args .state) (c .before .before .before .before .before .before .before .before .before .before .before .before .before .before .select .result) (c .before .before .before .before .before .before .before .before .before .before .before .before .before .before .select .ensures ∙ ap (λ (y : ℕ). member (s .args .n) (members (s .args .n) (s .args .words .now)) (y % s .args .left)) (c .before .before .before .before .before .before .before .before .before .before .before .before .before .before .before .before .next .ensures)) in slice-cuts (graph (s .args .n) (s .args .sources .now) (s .args .targets .now)) (s .args .b) (c .before .before .before .before .before .before .before .before .before .before .before .before .before .before .select .result) (s .args .q) (s .args .top) (5 * s .args .n + 5) (s .args .w .now) (slice-ask (s .pre .uncut) (c .before .before .before .before .before .before .before .before .before .before .before .before .before .before .select .result) (y .0) (y .1)) refl (λ e. refl) _ _ _ (c .before .before .before .before .before .before .before .before .before .before .before .before .search .ensures) _ _ (c .before .before .before .mark .ensures)
+cuts-requires c κs = let s = c .before .before .before .before .before .before .before .before .before .before .before .before .before .before .before .before .before .before .before in let d = draw-slice (s .pre .1) (c .before .before .before .before .before .before .before .before .before .before .before .before .before .before .before .before .before .before .before .args .state) (c .before .before .before .before .before .before .before .before .before .before .before .before .before .before .before .before .next .ensures) (c .before .before .before .before .before .before .before .before .before .before .before .before .before .before .select .ensures) in let f = c .before .before .before .before .before .before .before .before .before .before .before .before .search .ensures (sized (s .args .m) (s .pre .0)) (slice-start d refl) in (s .pre .0, slice-cuts d refl f (c .before .before .before .mark .ensures))
 
 same-length : tie.Need-same-length
 same-length c = search needs
@@ -52,7 +49,7 @@ same-length-2 : tie.Need-same-length-2
 same-length-2 c = search needs
 
 returns : tie.Need-returns
-returns c = let s = c .before .before .before .before .before .before .before .before .before .before .before .before .before .before .before .before .before .before .before .before .before .before .before .before in let y = marks-chosen (s .pre .marks) (s .pre .uncut .tables .small) (s .pre .some) (s .args .state) (c .before .before .before .before .before .before .before .before .before .before .before .before .before .before .before .before .before .select .result) (c .before .before .before .before .before .before .before .before .before .before .before .before .before .before .before .before .before .select .ensures ∙ ap (λ (y : ℕ). member (s .args .n) (members (s .args .n) (s .args .words .now)) (y % s .args .left)) (c .before .before .before .before .before .before .before .before .before .before .before .before .before .before .before .before .before .before .before .next .ensures)) in record { advanced = c .before .before .before .before .before .before .before .before .before .before .before .before .before .before .before .before .before .before .before .next .ensures; vertex = c .before .before .before .before .before .before .before .before .before .before .before .before .before .before .before .before .before .select .result; low = y .0; live = y .1; exact = y .2; sliced = slice-done (graph (s .args .n) (s .args .sources .now) (s .args .targets .now)) (s .args .b) (c .before .before .before .before .before .before .before .before .before .before .before .before .before .before .before .before .before .select .result) (s .args .q) (s .args .top) (5 * s .args .n + 5) (s .args .w .now) (slice-ask (s .pre .uncut) (c .before .before .before .before .before .before .before .before .before .before .before .before .before .before .before .before .before .select .result) (y .0) (y .1)) refl (λ e. refl) _ _ _ (c .before .before .before .before .before .before .before .before .before .before .before .before .before .before .before .search .ensures) _ _ (c .before .before .before .before .before .before .mark .ensures) _ _ (c .before .before .cuts .ensures); marks = slice-marks (graph (s .args .n) (s .args .sources .now) (s .args .targets .now)) (s .args .b) (c .before .before .before .before .before .before .before .before .before .before .before .before .before .before .before .before .before .select .result) (s .args .q) (s .args .top) (5 * s .args .n + 5) (s .args .w .now) (slice-ask (s .pre .uncut) (c .before .before .before .before .before .before .before .before .before .before .before .before .before .before .before .before .before .select .result) (y .0) (y .1)) refl (λ e. refl) _ _ _ (c .before .before .before .before .before .before .before .before .before .before .before .before .before .before .before .search .ensures) _ _ (c .before .before .before .before .before .before .mark .ensures) _ _ (c .before .before .cuts .ensures) (s .args .words .now) (s .args .left) (s .pre .marks) _ _ (c .before .before .before .before .before .before .before .before .before .before .erase .ensures) }
+returns c = let s = c .before .before .before .before .before .before .before .before .before .before .before .before .before .before .before .before .before .before .before .before .before .before in λ g a. let d = draw-slice a (c .before .before .before .before .before .before .before .before .before .before .before .before .before .before .before .before .before .before .before .before .before .before .args .state) (c .before .before .before .before .before .before .before .before .before .before .before .before .before .before .before .before .before .before .before .next .ensures) (c .before .before .before .before .before .before .before .before .before .before .before .before .before .before .before .before .before .select .ensures) in let f = c .before .before .before .before .before .before .before .before .before .before .before .before .before .before .before .search .ensures (sized (s .args .m) g) (slice-start d refl) in let k = c .before .before .before .before .before .before .mark .ensures in let y = c .before .before .cuts .ensures g (slice-cuts d refl f k) in draw-done a (c .before .before .before .before .before .before .before .before .before .before .before .before .before .before .before .before .before .before .before .before .before .before .args .state) (c .before .before .before .before .before .before .before .before .before .before .before .before .before .before .before .before .before .before .before .next .ensures) (c .before .before .before .before .before .before .before .before .before .before .before .before .before .before .before .before .before .select .ensures) (slice-done d refl f k y) (slice-marks d refl f k y (a .marks) (c .before .before .before .before .before .before .before .before .before .before .erase .ensures))
 
 pub turn-spec : {M : Type 1} → statement M
 turn-spec =

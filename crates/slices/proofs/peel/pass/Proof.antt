@@ -1,62 +1,58 @@
 use Prim.Native.Nat.{_≤_, _-_, _+_, _*_}
 use native.Mathlib.Omega.{arith}
-use Rattle.graph.specs.Graph.{graph}
-use Rattle.slices.specs.Peel.{Peeled}
-use Rattle.slices.proofs.Peeling.{peeled-none, peeled-more}
-use Rattle.slices.proofs.Peeling.{peel-ask}
-use Rattle.graph.proofs.Counts.{many-le}
-use Rattle.paint.specs.Colours.{col}
-use lib.Dec.{eqb}
+use Rattle.graph.specs.Arrows.{EveryOf}
+use Rattle.slices.specs.Peel.{PassAsk, Peeled}
+use Rattle.slices.proofs.Peeling.{peeled-none, peeled-more, pass-ask}
 use Rattle.slices.proofs.peel.pass.Statement.{statement}
 use Rattle.slices.proofs.peel.pass.Tie as tie
 
 abbrev Inv-loop : tie.InvT-loop
-Inv-loop sources targets n w₀ b r l e0 i₀ e₀ k₀ w i e k = (l ≤ i) × (i ≤ e0) × Peeled (graph n sources targets) b r w₀ e0 0 w e k
+Inv-loop n m w₀ b r l e0 i₀ e₀ k₀ w i e k = (l ≤ i) × EveryOf n m (λ g. PassAsk g b r l e0 w₀ → Peeled g b r w₀ e0 0 w e k)
 
 abbrev μ-loop : tie.MeasureT-loop
-μ-loop sources targets n w₀ b r l e0 i₀ e₀ k₀ w i e k = e0 - i
+μ-loop n m w₀ b r l e0 i₀ e₀ k₀ w i e k = e0 - i
 
 loop-holds : tie.Need-loop-holds Inv-loop μ-loop
-loop-holds c = let s = c .before .before .before in (omega arith, s .pre .order, peeled-none (graph (s .args .n) (s .args .sources .now) (s .args .targets .now)) (s .args .b) (s .args .r) (s .args .w .now) (s .args .e0) 0 (s .pre .standing))
+loop-holds c = let s = c .before in (omega arith, λ g a. peeled-none (a .standing))
 
 mul-v : tie.Need-mul-v Inv-loop μ-loop
-mul-v c = let s = c .before .before .before .before .before in let l = c .before .loop in omega (arith, s .pre .standing .long, l .inv .2 .inside .long, s .pre .standing .tables .small, s .pre .room, c .loop-test .taken)
+mul-v c = let s = c .before .before .before in let l = c .before .loop in let z = l .inv .1 (s .pre .0) (s .pre .1) in omega (arith, s .pre .1 .standing .long, z .inside .long, s .pre .1 .standing .tables .small, s .pre .1 .room, c .loop-test .taken)
 
 add-v : tie.Need-add-v Inv-loop μ-loop
-add-v c = let s = c .before .before .before .before .before in let l = c .before .loop in omega (arith, s .pre .standing .long, l .inv .2 .inside .long, s .pre .standing .tables .small, s .pre .room, c .loop-test .taken)
+add-v c = let s = c .before .before .before in let l = c .before .loop in let z = l .inv .1 (s .pre .0) (s .pre .1) in omega (arith, s .pre .1 .standing .long, z .inside .long, s .pre .1 .standing .tables .small, s .pre .1 .room, c .loop-test .taken)
 
 add-v-2 : tie.Need-add-v-2 Inv-loop μ-loop
-add-v-2 c = let s = c .before .before .before .before .before in let l = c .before .loop in omega (arith, s .pre .standing .long, l .inv .2 .inside .long, s .pre .standing .tables .small, s .pre .room, c .loop-test .taken)
+add-v-2 c = let s = c .before .before .before in let l = c .before .loop in let z = l .inv .1 (s .pre .0) (s .pre .1) in omega (arith, s .pre .1 .standing .long, z .inside .long, s .pre .1 .standing .tables .small, s .pre .1 .room, c .loop-test .taken)
 
 add-v-3 : tie.Need-add-v-3 Inv-loop μ-loop
-add-v-3 c = let s = c .before .before .before .before .before in let l = c .before .loop in omega (arith, s .pre .standing .long, l .inv .2 .inside .long, s .pre .standing .tables .small, s .pre .room, c .loop-test .taken)
+add-v-3 c = let s = c .before .before .before in let l = c .before .loop in let z = l .inv .1 (s .pre .0) (s .pre .1) in omega (arith, s .pre .1 .standing .long, z .inside .long, s .pre .1 .standing .tables .small, s .pre .1 .room, c .loop-test .taken)
 
 mul-v-2 : tie.Need-mul-v-2 Inv-loop μ-loop
-mul-v-2 c = let s = c .before .before .before .before .before in let l = c .before .loop in omega (arith, s .pre .standing .long, l .inv .2 .inside .long, s .pre .standing .tables .small, s .pre .room, c .loop-test .taken)
+mul-v-2 c = let s = c .before .before .before in let l = c .before .loop in let z = l .inv .1 (s .pre .0) (s .pre .1) in omega (arith, s .pre .1 .standing .long, z .inside .long, s .pre .1 .standing .tables .small, s .pre .1 .room, c .loop-test .taken)
 
 slice-read-v : tie.Need-slice-read-v Inv-loop μ-loop
-slice-read-v c = let s = c .before .before .before .before .before .before in let l = c .before .before .loop in omega (arith, s .pre .standing .long, l .inv .2 .inside .long, s .pre .standing .tables .small, s .pre .room, c .before .loop-test .taken)
+slice-read-v c = let s = c .before .before .before .before in let l = c .before .before .loop in let z = l .inv .1 (s .pre .0) (s .pre .1) in omega (arith, s .pre .1 .standing .long, z .inside .long, s .pre .1 .standing .tables .small, s .pre .1 .room, c .before .loop-test .taken)
 
 cast-v : tie.Need-cast-v Inv-loop μ-loop
-cast-v c = omega (arith, c .slice-known2 .given (c .before .before .before .before .before .before .args .b + 8 * c .before .before .before .before .before .before .args .n + 2 + c .before .before .loop .i))
+cast-v c = omega (arith, c .slice-known2 .given (c .before .before .before .before .args .b + 8 * c .before .before .before .before .args .n + 2 + c .before .before .loop .i))
 
 settle-requires : tie.Need-settle-requires Inv-loop μ-loop
-settle-requires c κs = let s = c .before .before .before .before .before .before .before in let l = c .before .before .before .loop in peel-ask (graph (s .args .n) (s .args .sources .now) (s .args .targets .now)) (s .args .b) (s .args .r) (s .args .w .now) (s .args .e0) 0 (l .w) (l .e) (l .k) (l .inv .2) (s .pre .room) (omega (arith, many-le (λ v. eqb (col (s .args .b) (s .args .w .now) v) (s .args .r)) (s .args .n))) _ (let q = l .inv .2 .front (l .i) (c .before .before .loop-test .taken) in omega (arith, q, s .pre .member (l .i) (c .before .before .loop-test .taken)))
+settle-requires c κs = let s = c .before .before .before .before .before in let l = c .before .before .before .loop in (s .pre .0, pass-ask (s .pre .1) (l .inv .1 (s .pre .0) (s .pre .1)) (c .before .before .loop-test .taken))
 
 add-i : tie.Need-add-i Inv-loop μ-loop
-add-i c = let s = c .before .before .before .before .before .before .before .before .before .before in let l = c .before .before .before .before .before .before .loop in omega (arith, s .pre .standing .long, l .inv .2 .inside .long, s .pre .standing .tables .small, s .pre .room, c .before .before .before .before .before .loop-test .taken)
+add-i c = let s = c .before .before .before .before .before .before .before .before in let l = c .before .before .before .before .before .before .loop in let z = l .inv .1 (s .pre .0) (s .pre .1) in omega (arith, s .pre .1 .standing .long, z .inside .long, s .pre .1 .standing .tables .small, s .pre .1 .room, c .before .before .before .before .before .loop-test .taken)
 
 loop-less : tie.Need-loop-less Inv-loop μ-loop
-loop-less c = let s = c .before .before .before .before .before .before .before .before .before .before in let l = c .before .before .before .before .before .before .loop in omega (arith, s .pre .standing .long, l .inv .2 .inside .long, s .pre .standing .tables .small, s .pre .room, c .before .before .before .before .before .loop-test .taken)
+loop-less c = let s = c .before .before .before .before .before .before .before .before in let l = c .before .before .before .before .before .before .loop in let z = l .inv .1 (s .pre .0) (s .pre .1) in omega (arith, s .pre .1 .standing .long, z .inside .long, s .pre .1 .standing .tables .small, s .pre .1 .room, c .before .before .before .before .before .loop-test .taken)
 
 loop-again : tie.Need-loop-again Inv-loop μ-loop
-loop-again c = let s = c .before .before .before .before .before .before .before .before .before .before in let l = c .before .before .before .before .before .before .loop in (omega (arith, l .inv .0), omega (arith, c .before .before .before .before .before .loop-test .taken), peeled-more (graph (s .args .n) (s .args .sources .now) (s .args .targets .now)) (s .args .b) (s .args .r) (s .args .w .now) (l .w) _ (s .args .e0) (l .e) _ 0 (l .k) _ (l .inv .2) (c .before .before .settle .ensures))
+loop-again c = let l = c .before .before .before .before .before .before .loop in let t = c .before .before .before .before .before .loop-test .taken in (omega (arith, l .inv .0), λ g a. peeled-more (l .inv .1 g a) (c .before .before .settle .ensures g (pass-ask a (l .inv .1 g a) t)))
 
 same-length : tie.Need-same-length Inv-loop μ-loop
-same-length c = c .before .loop .inv .2 .inside .long
+same-length c = let s = c .before .before .before in c .before .loop .inv .1 (s .pre .0) (s .pre .1) .inside .long
 
 returns : tie.Need-returns Inv-loop μ-loop
-returns c = c .before .loop .inv .2
+returns c = c .before .loop .inv .1
 
 pub pass-spec : {M : Type 1} → statement M
 pass-spec =

@@ -1,12 +1,12 @@
 use Prim.Native.Nat.{_-_, _+_}
 use native.Mathlib.Omega.{arith}
-use lib.ListN.{length, length-set}
-use borrow.Author.Needs.{needs}
-use Rattle.graph.specs.Graph.{graph}
+use lib.ListN.{length-set}
 use Rattle.graph.specs.Graph.{rev}
+use Rattle.graph.specs.Arrows.{on, sized}
 use Rattle.trim.proofs.Walks.{advance-ask}
 use Rattle.slices.specs.Peel.{into}
 use Rattle.slices.proofs.Peeling.{peeled-none, peel-stay, peel-long, k-low, peel-next, peel-go}
+use borrow.Author.Needs.{needs}
 use Rattle.slices.proofs.peel.settle.Statement.{statement}
 use Rattle.slices.proofs.peel.settle.Tie as tie
 
@@ -20,7 +20,7 @@ slice-read-if1 : tie.Need-slice-read-if1
 slice-read-if1 c = search needs
 
 returns : tie.Need-returns
-returns c = let s = c .before .before .before .before .before in peeled-none (graph (s .args .n) (s .args .sources .now) (s .args .targets .now)) (s .args .b) (s .args .r) (s .args .w .now) (s .args .e) (s .args .k) (s .pre .standing)
+returns c = λ g a. peeled-none (a .standing)
 
 add-advance : tie.Need-add-advance
 add-advance c = search needs
@@ -38,13 +38,13 @@ add-advance-4 : tie.Need-add-advance-4
 add-advance-4 c = search needs
 
 advance-requires : tie.Need-advance-requires
-advance-requires c κs = let s = c .before .before .before .before .before .before in advance-ask (rev (graph (s .args .n) (s .args .sources .now) (s .args .targets .now))) (s .args .n + 1 + length (s .args .sources .now)) (into (graph (s .args .n) (s .args .sources .now) (s .args .targets .now)) (s .args .b)) (s .args .b) (s .args .r) (s .args .w .now) (s .pre .standing .side) (omega arith) (omega (arith, s .pre .standing .long)) (s .args .v) (s .pre .low) (c .before .if1 .left)
+advance-requires c κs = let s = c .before .before .before .before in let g = on (s .args .n) (sized (s .args .m) (s .pre .0)) in advance-ask (rev g) (s .args .n + 1 + s .args .m) (into g (s .args .b)) (s .args .b) (s .args .r) (s .args .w .now) (s .pre .1 .standing .side) (omega arith) (omega (arith, s .pre .1 .standing .long)) (s .args .v) (s .pre .1 .low) (c .before .if1 .left)
 
 same-length : tie.Need-same-length
 same-length c = search needs
 
 returns-2 : tie.Need-returns-2
-returns-2 c = let s = c .before .before .before .before .before .before .before .before .before .before in peel-stay (graph (s .args .n) (s .args .sources .now) (s .args .targets .now)) (s .args .b) (s .args .r) (s .args .w .now) (s .args .v) (s .args .e) (s .args .k) (s .pre) (c .before .before .before .before .before .if1 .left) _ _ (c .before .before .before .advance .ensures)
+returns-2 c = λ g a. peel-stay a (c .before .before .before .before .before .if1 .left) (c .before .before .before .advance .ensures)
 
 cast-w : tie.Need-cast-w
 cast-w c = search needs
@@ -71,19 +71,19 @@ mul-w-2 : tie.Need-mul-w-2
 mul-w-2 c = search needs
 
 slice-write-w-2 : tie.Need-slice-write-w-2
-slice-write-w-2 c = let s = c .before .before .before .before .before .before .before .before .before .before in simp length-set (omega (arith, s .pre .standing .long, peel-long (graph (s .args .n) (s .args .sources .now) (s .args .targets .now)) (s .args .b) (s .args .r) (s .args .w .now) (s .args .v) (s .args .e) (s .args .k) (s .pre) (c .before .before .before .before .before .if1 .left) _ _ (c .before .before .before .advance .ensures), k-low (graph (s .args .n) (s .args .sources .now) (s .args .targets .now)) (s .args .b) (s .args .r) (s .args .w .now) (s .args .v) (s .args .e) (s .args .k) (s .pre) (c .before .before .before .before .before .if1 .left) _ _ (c .before .before .before .advance .ensures) (c .if2 .left)))
+slice-write-w-2 c = let s = c .before .before .before .before .before .before .before .before in simp length-set (omega (arith, s .pre .1 .standing .long, peel-long (s .pre .1) (c .before .before .before .before .before .if1 .left) (c .before .before .before .advance .ensures), k-low (s .pre .1) (c .before .before .before .before .before .if1 .left) (c .before .before .before .advance .ensures) (c .if2 .left)))
 
 mark-next-requires : tie.Need-mark-next-requires
-mark-next-requires c κs = let s = c .before .before .before .before .before .before .before .before .before .before .before in peel-next (graph (s .args .n) (s .args .sources .now) (s .args .targets .now)) (s .args .b) (s .args .r) (s .args .w .now) (s .args .v) (s .args .e) (s .args .k) (s .pre) (c .before .before .before .before .before .before .if1 .left) _ _ (c .before .before .before .before .advance .ensures) (c .before .if2 .left)
+mark-next-requires c κs = let s = c .before .before .before .before .before .before .before .before .before in (sized (s .args .m) (s .pre .0), peel-next (s .pre .1) (c .before .before .before .before .before .before .if1 .left) (c .before .before .before .before .advance .ensures) (c .before .if2 .left))
 
-add-t20 : tie.Need-add-t20
-add-t20 c = search needs
+add-t18 : tie.Need-add-t18
+add-t18 c = search needs
 
 same-length-2 : tie.Need-same-length-2
-same-length-2 c = let s = c .before .before .before .before .before .before .before .before .before .before .before .before .before .before in peel-go (graph (s .args .n) (s .args .sources .now) (s .args .targets .now)) (s .args .b) (s .args .r) (s .args .w .now) (s .args .v) (s .args .e) (s .args .k) (s .pre) (c .before .before .before .before .before .before .before .before .before .if1 .left) _ _ (c .before .before .before .before .before .before .before .advance .ensures) (c .before .before .before .before .if2 .left) _ _ (c .before .before .mark-next .ensures) .inside .long
+same-length-2 c = let s = c .before .before .before .before .before .before .before .before .before .before .before .before in peel-go (s .pre .1) (c .before .before .before .before .before .before .before .before .before .if1 .left) (c .before .before .before .before .before .before .before .advance .ensures) (c .before .before .before .before .if2 .left) (c .before .before .mark-next .ensures (sized (s .args .m) (s .pre .0)) (peel-next (s .pre .1) (c .before .before .before .before .before .before .before .before .before .if1 .left) (c .before .before .before .before .before .before .before .advance .ensures) (c .before .before .before .before .if2 .left))) .inside .long
 
 returns-3 : tie.Need-returns-3
-returns-3 c = let s = c .before .before .before .before .before .before .before .before .before .before .before .before .before .before in peel-go (graph (s .args .n) (s .args .sources .now) (s .args .targets .now)) (s .args .b) (s .args .r) (s .args .w .now) (s .args .v) (s .args .e) (s .args .k) (s .pre) (c .before .before .before .before .before .before .before .before .before .if1 .left) _ _ (c .before .before .before .before .before .before .before .advance .ensures) (c .before .before .before .before .if2 .left) _ _ (c .before .before .mark-next .ensures)
+returns-3 c = let s = c .before .before .before .before .before .before .before .before .before .before .before .before in λ g a. peel-go a (c .before .before .before .before .before .before .before .before .before .if1 .left) (c .before .before .before .before .before .before .before .advance .ensures) (c .before .before .before .before .if2 .left) (c .before .before .mark-next .ensures (sized (s .args .m) g) (peel-next a (c .before .before .before .before .before .before .before .before .before .if1 .left) (c .before .before .before .before .before .before .before .advance .ensures) (c .before .before .before .before .if2 .left)))
 
 pub settle-spec : {M : Type 1} → statement M
 settle-spec =
@@ -111,6 +111,6 @@ settle-spec =
     mul-w-2
     slice-write-w-2
     mark-next-requires
-    add-t20
+    add-t18
     same-length-2
     returns-3)

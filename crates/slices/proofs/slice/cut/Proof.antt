@@ -1,17 +1,11 @@
-use Prim.Native.Nat.{_-_, _+_}
-use lib.ListN.{length}
+use Rattle.graph.specs.Arrows.{back, sized}
+use Rattle.slices.proofs.Cutting.{cut-level, cut-searched, cut-all, cut-done}
 use borrow.Author.Needs.{needs}
-use Rattle.graph.specs.Graph.{graph}
-use Rattle.graph.specs.Graph.{rev}
-use Rattle.paint.specs.Colours.{paint}
-use Rattle.slices.specs.Slice.{Listed}
-use Rattle.slices.proofs.Cutting.{cut-ask, cut-all, cut-done}
-use Rattle.paint.proofs.Spreading.{begun-ask, begun-searched}
 use Rattle.slices.proofs.slice.cut.Statement.{statement}
 use Rattle.slices.proofs.slice.cut.Tie as tie
 
 sow-requires : tie.Need-sow-requires
-sow-requires c κs = search needs
+sow-requires c κs = let s = c .before .before in (sized (s .args .m) (s .pre .0), s .pre .1)
 
 add-spread : tie.Need-add-spread
 add-spread c = search needs
@@ -20,16 +14,16 @@ add-spread-2 : tie.Need-add-spread-2
 add-spread-2 c = search needs
 
 spread-requires : tie.Need-spread-requires
-spread-requires c κs = let s = c .before .before .before .before .before .before .before .before in begun-ask (rev (graph (s .args .n) (s .args .sources .now) (s .args .targets .now))) (paint (s .args .r) (s .args .s) (s .args .r) (s .args .s)) (s .args .n + 1 + length (s .args .sources .now)) (s .args .b) (s .args .w .now) (cut-ask (graph (s .args .n) (s .args .sources .now) (s .args .targets .now)) (s .args .b) (s .args .r) (s .args .s) (s .args .l) (s .args .e) (s .args .w .now) (s .pre)) (Listed (s .args .n) (s .args .b) (s .args .w .now) (s .args .l) (s .args .e)) _ _ (c .before .before .before .sow .ensures)
+spread-requires c κs = let s = c .before .before .before .before .before .before in let g = sized (s .args .m) (s .pre .0) in (back g, cut-level (s .pre .1) (c .before .before .before .sow .ensures g (s .pre .1)))
 
 mark-all-requires : tie.Need-mark-all-requires
-mark-all-requires c κs = let s = c .before .before .before .before .before .before .before .before .before .before .before .before in cut-all (graph (s .args .n) (s .args .sources .now) (s .args .targets .now)) (s .args .b) (s .args .r) (s .args .s) (s .args .l) (s .args .e) (s .args .w .now) (s .pre) _ _ _ (begun-searched (rev (graph (s .args .n) (s .args .sources .now) (s .args .targets .now))) (paint (s .args .r) (s .args .s) (s .args .r) (s .args .s)) (s .args .n + 1 + length (s .args .sources .now)) (s .args .b) (s .args .w .now) (cut-ask (graph (s .args .n) (s .args .sources .now) (s .args .targets .now)) (s .args .b) (s .args .r) (s .args .s) (s .args .l) (s .args .e) (s .args .w .now) (s .pre)) (Listed (s .args .n) (s .args .b) (s .args .w .now) (s .args .l) (s .args .e)) _ _ (c .before .before .before .before .before .before .before .sow .ensures) _ _ _ (c .before .before .before .spread .ensures))
+mark-all-requires c κs = let s = c .before .before .before .before .before .before .before .before .before .before in let g = sized (s .args .m) (s .pre .0) in let z = c .before .before .before .before .before .before .before .sow .ensures g (s .pre .1) in (g, cut-all (s .pre .1) (cut-searched (s .pre .1) z (c .before .before .before .spread .ensures (back g) (cut-level (s .pre .1) z))))
 
 same-length : tie.Need-same-length
 same-length c = search needs
 
 returns : tie.Need-returns
-returns c = let s = c .before .before .before .before .before .before .before .before .before .before .before .before .before .before .before in cut-done (graph (s .args .n) (s .args .sources .now) (s .args .targets .now)) (s .args .b) (s .args .r) (s .args .s) (s .args .l) (s .args .e) (s .args .w .now) (s .pre) _ _ _ (begun-searched (rev (graph (s .args .n) (s .args .sources .now) (s .args .targets .now))) (paint (s .args .r) (s .args .s) (s .args .r) (s .args .s)) (s .args .n + 1 + length (s .args .sources .now)) (s .args .b) (s .args .w .now) (cut-ask (graph (s .args .n) (s .args .sources .now) (s .args .targets .now)) (s .args .b) (s .args .r) (s .args .s) (s .args .l) (s .args .e) (s .args .w .now) (s .pre)) (Listed (s .args .n) (s .args .b) (s .args .w .now) (s .args .l) (s .args .e)) _ _ (c .before .before .before .before .before .before .before .before .before .before .sow .ensures) _ _ _ (c .before .before .before .before .before .before .spread .ensures)) _ _ (c .before .before .mark-all .ensures)
+returns c = let s = c .before .before .before .before .before .before .before .before .before .before .before .before .before in λ x a. let g = sized (s .args .m) x in let z = c .before .before .before .before .before .before .before .before .before .before .sow .ensures g a in let f = cut-searched a z (c .before .before .before .before .before .before .spread .ensures (back g) (cut-level a z)) in cut-done a f (c .before .before .mark-all .ensures g (cut-all a f))
 
 pub cut-spec : {M : Type 1} → statement M
 cut-spec =

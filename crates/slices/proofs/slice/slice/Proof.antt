@@ -1,8 +1,7 @@
 use mathlib.Core.Path.{refl}
-use Prim.Native.Nat.{_-_, _+_, _*_}
+use Rattle.graph.specs.Arrows.{sized}
+use Rattle.slices.proofs.Slicing.{slice-start, slice-mark, slice-cuts, slice-done}
 use borrow.Author.Needs.{needs}
-use Rattle.graph.specs.Graph.{graph}
-use Rattle.slices.proofs.Slicing.{slice-start, slice-cuts, slice-done}
 use Rattle.slices.proofs.slice.slice.Statement.{statement}
 use Rattle.slices.proofs.slice.slice.Tie as tie
 
@@ -16,21 +15,29 @@ cast-r : tie.Need-cast-r
 cast-r c = search needs
 
 search-requires : tie.Need-search-requires
-search-requires c κs = let s = c .before .before .before .before in slice-start (graph (s .args .n) (s .args .sources .now) (s .args .targets .now)) (s .args .b) (s .args .p) (s .args .q) (s .args .top) (5 * s .args .n + 5) (s .args .w .now) (s .pre) refl (λ e. refl)
+search-requires c κs = let s = c .before .before in (sized (s .args .m) (s .pre .0), slice-start (s .pre .1) refl)
 
 mark-requires : tie.Need-mark-requires
-mark-requires c κs = search needs
+mark-requires c κs = let s = c .before .before .before .before .before .before in slice-mark (s .pre .1) refl (c .before .before .before .search .ensures (sized (s .args .m) (s .pre .0)) (slice-start (s .pre .1) refl))
 
 cuts-requires : tie.Need-cuts-requires
-cuts-requires c κs = let s = c .before .before .before .before .before .before .before .before .before .before .before .before in slice-cuts (graph (s .args .n) (s .args .sources .now) (s .args .targets .now)) (s .args .b) (s .args .p) (s .args .q) (s .args .top) (5 * s .args .n + 5) (s .args .w .now) (s .pre) refl (λ e. refl) _ _ _ (c .before .before .before .before .before .before .before .search .ensures) _ _ (c .before .before .before .mark .ensures)
+cuts-requires c κs = let s = c .before .before .before .before .before .before .before .before .before .before in let f = c .before .before .before .before .before .before .before .search .ensures (sized (s .args .m) (s .pre .0)) (slice-start (s .pre .1) refl) in (s .pre .0, slice-cuts (s .pre .1) refl f (c .before .before .before .mark .ensures))
 
 same-length : tie.Need-same-length
 same-length c = search needs
 
 returns : tie.Need-returns
-returns c = let s = c .before .before .before .before .before .before .before .before .before .before .before .before .before .before .before in slice-done (graph (s .args .n) (s .args .sources .now) (s .args .targets .now)) (s .args .b) (s .args .p) (s .args .q) (s .args .top) (5 * s .args .n + 5) (s .args .w .now) (s .pre) refl (λ e. refl) _ _ _ (c .before .before .before .before .before .before .before .before .before .before .search .ensures) _ _ (c .before .before .before .before .before .before .mark .ensures) _ _ (c .before .before .cuts .ensures)
+returns c = let s = c .before .before .before .before .before .before .before .before .before .before .before .before .before in λ g a. let f = c .before .before .before .before .before .before .before .before .before .before .search .ensures (sized (s .args .m) g) (slice-start a refl) in let k = c .before .before .before .before .before .before .mark .ensures in slice-done a refl f k (c .before .before .cuts .ensures g (slice-cuts a refl f k))
 
 pub slice-spec : {M : Type 1} → statement M
 slice-spec =
     tie.close
-    (tie.spec mul-r add-r cast-r search-requires mark-requires cuts-requires same-length returns)
+    (tie.spec
+    mul-r
+    add-r
+    cast-r
+    search-requires
+    mark-requires
+    cuts-requires
+    same-length
+    returns)

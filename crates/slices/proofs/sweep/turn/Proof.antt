@@ -2,8 +2,8 @@ use mathlib.Core.Path.{refl}
 use mathlib.Core.Logic.{inl, inr}
 use Prim.Native.Nat.{_-_, _+_, _*_}
 use native.Mathlib.Omega.{arith}
-use borrow.Author.Needs.{needs}
 use Rattle.slices.proofs.Sweeping.{slice-ask}
+use borrow.Author.Needs.{needs}
 use Rattle.slices.proofs.sweep.turn.Statement.{statement}
 use Rattle.slices.proofs.sweep.turn.Tie as tie
 
@@ -26,28 +26,28 @@ slice-read-p : tie.Need-slice-read-p
 slice-read-p c = search needs
 
 cast-p : tie.Need-cast-p
-cast-p c = omega (arith, c .slice-known2 .given (c .before .before .before .before .args .b + 9 * c .before .before .before .before .args .n + 2 + c .before .before .before .before .args .i))
+cast-p c = omega (arith, c .slice-known2 .given (c .before .before .args .b + 9 * c .before .before .args .n + 2 + c .before .before .args .i))
 
 add-if1 : tie.Need-add-if1
-add-if1 c = let s = c .before .before .before .before in omega (arith, s .pre .low, s .pre .uncut .long, s .pre .uncut .tables .small, s .pre .uncut .placed .low (s .args .i) (s .pre .low))
+add-if1 c = let s = c .before .before in omega (arith, s .pre .1 .low, s .pre .1 .uncut .long, s .pre .1 .uncut .tables .small, s .pre .1 .uncut .placed .low (s .args .i) (s .pre .1 .low))
 
 mul-if1 : tie.Need-mul-if1
-mul-if1 c = let s = c .before .before .before .before in omega (arith, s .pre .low, s .pre .uncut .long, s .pre .uncut .tables .small, s .pre .uncut .placed .low (s .args .i) (s .pre .low))
+mul-if1 c = let s = c .before .before in omega (arith, s .pre .1 .low, s .pre .1 .uncut .long, s .pre .1 .uncut .tables .small, s .pre .1 .uncut .placed .low (s .args .i) (s .pre .1 .low))
 
 slice-read-if1 : tie.Need-slice-read-if1
-slice-read-if1 c = let s = c .before .before .before .before .before in omega (arith, s .pre .low, s .pre .uncut .long, s .pre .uncut .tables .small, s .pre .uncut .placed .low (s .args .i) (s .pre .low))
+slice-read-if1 c = let s = c .before .before .before in omega (arith, s .pre .1 .low, s .pre .1 .uncut .long, s .pre .1 .uncut .tables .small, s .pre .1 .uncut .placed .low (s .args .i) (s .pre .1 .low))
 
 returns : tie.Need-returns
-returns c = inr (c .if1 .taken, refl, refl)
+returns c = λ g a. inr (c .if1 .taken, refl, refl)
 
 slice-requires : tie.Need-slice-requires
-slice-requires c κs = let s = c .before .before .before .before .before .before .before in slice-ask (s .pre .uncut) _ (s .pre .uncut .placed .low (s .args .i) (s .pre .low)) (c .before .if1 .left)
+slice-requires c κs = let s = c .before .before .before .before .before in (s .pre .0, slice-ask (s .pre .1 .uncut) _ (s .pre .1 .uncut .placed .low (s .args .i) (s .pre .1 .low)) (c .before .if1 .left))
 
 same-length : tie.Need-same-length
 same-length c = search needs
 
 returns-2 : tie.Need-returns-2
-returns-2 c = let s = c .before .before .before .before .before .before .before .before .before .before in inl (c .before .before .before .before .if1 .left, c .before .before .slice .ensures)
+returns-2 c = let s = c .before .before .before .before .before .before .before .before in λ g a. inl (c .before .before .before .before .if1 .left, c .before .before .slice .ensures g (slice-ask (a .uncut) _ (a .uncut .placed .low (s .args .i) (a .low)) (c .before .before .before .before .if1 .left)))
 
 pub turn-spec : {M : Type 1} → statement M
 turn-spec =

@@ -2,7 +2,6 @@ use mathlib.Core.Path.{refl}
 use Prim.Native.Nat.{_+_}
 use native.Mathlib.Omega.{arith}
 use borrow.Author.Needs.{needs}
-use Rattle.graph.specs.Refusal.{given}
 use Rattle.trim.proofs.cursor.advance.Statement.{statement}
 use Rattle.trim.proofs.cursor.advance.Tie as tie
 
@@ -43,7 +42,7 @@ find-requires : tie.Need-find-requires
 find-requires c κs = search needs
 
 cast-w : tie.Need-cast-w
-cast-w c = let s = c .before .before .before .before .before in omega (arith, c .find .ensures .most, c .before .before .slice-known2 .given (s .args .ix + s .args .v + 1))
+cast-w c = let s = c .before .before .before .before in omega (arith, c .find .ensures .most, c .before .before .slice-known2 .given (s .args .ix + s .args .v + 1))
 
 add-w : tie.Need-add-w
 add-w c = search needs

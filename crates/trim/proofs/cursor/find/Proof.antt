@@ -1,74 +1,44 @@
 use mathlib.Core.Path.{_≡_}
-use Prim.Native.Nat.{ℕ, _≤_, _<_, _-_, _+_}
+use Prim.Native.Nat.{ℕ, _≤_, _<_, _-_}
 use native.Mathlib.Omega.{arith}
 use native.Mathlib.Decide.{ℕ-discrete}
-use lib.ListN.{getD}
-use Rattle.graph.specs.Graph.{edges}
-use Rattle.graph.specs.Refusal.{given}
 use Rattle.paint.specs.Colours.{col}
 use Rattle.paint.specs.Paint.{other}
 use Rattle.trim.proofs.cursor.find.Statement.{statement}
 use Rattle.trim.proofs.cursor.find.Tie as tie
 
 abbrev Inv-loop : tie.InvT-loop
-Inv-loop n to w eb b q i0 t i₀ i = (i0 ≤ i) × (i ≤ t) × ((j : ℕ) → i0 ≤ j → j < i → col b w (other w eb to j) ≡ q → ⊥)
+Inv-loop n w eb b q i0 t i₀ i = (i0 ≤ i) × (i ≤ t) × ((j : ℕ) → i0 ≤ j → j < i → col b w (other w eb j) ≡ q → ⊥)
 
 abbrev μ-loop : tie.MeasureT-loop
-μ-loop n to w eb b q i0 t i₀ i = t - i
+μ-loop n w eb b q i0 t i₀ i = t - i
 
 loop-holds : tie.Need-loop-holds Inv-loop μ-loop
 loop-holds c = (omega arith, c .pre .order, λ j h l. absurd (omega arith))
 
-add-e : tie.Need-add-e Inv-loop μ-loop
-add-e c = let s = c .before .before in omega (arith, s .pre .fits)
-
-mul-e : tie.Need-mul-e Inv-loop μ-loop
-mul-e c = let s = c .before .before in omega (arith, s .pre .fits)
-
-shared-slice-read-e : tie.Need-shared-slice-read-e Inv-loop μ-loop
-shared-slice-read-e c = let s = c .before .before .before in omega (arith, s .pre .fits)
-
-cast-e : tie.Need-cast-e Inv-loop μ-loop
-cast-e c = omega (arith, c .shared-slice-known .given (c .before .before .before .args .eb + c .before .before .loop .i))
+add-x : tie.Need-add-x Inv-loop μ-loop
+add-x c = omega (arith, c .before .before .pre .fits)
 
 mul-x : tie.Need-mul-x Inv-loop μ-loop
-mul-x c = let s = c .before .before .before in
-    let l = c .before .before .loop in
-    let h = c .before .loop-test .taken in
-    omega (arith, s .pre .edges (l .i) (l .inv .0) h)
+mul-x c = omega (arith, c .before .before .pre .fits)
 
 shared-slice-read-x : tie.Need-shared-slice-read-x Inv-loop μ-loop
-shared-slice-read-x c = let s = c .before .before .before .before in
-    let l = c .before .before .before .loop in
-    let h = c .before .before .loop-test .taken in
-    omega (arith, s .pre .edges (l .i) (l .inv .0) h)
+shared-slice-read-x c = omega (arith, c .before .before .before .pre .fits)
 
 cast-x : tie.Need-cast-x Inv-loop μ-loop
-cast-x c = let s = c .before .before .before .before in
-    let l = c .before .before .before .loop in
-    let h = c .before .before .loop-test .taken in
-    omega (arith, s .pre .ends (getD (s .args .w .now) (s .args .eb + l .i) 0) (s .pre .edges (l .i) (l .inv .0) h), s .pre .room)
+cast-x c = let s = c .before .before .before in let l = c .before .before .loop in omega (arith, s .pre .ends (l .i) (l .inv .0) (c .before .loop-test .taken), s .pre .room)
 
 add-if1 : tie.Need-add-if1 Inv-loop μ-loop
-add-if1 c = let s = c .before .before .before .before in
-    let l = c .before .before .before .loop in
-    let h = c .before .before .loop-test .taken in
-    omega (arith, s .pre .ends (getD (s .args .w .now) (s .args .eb + l .i) 0) (s .pre .edges (l .i) (l .inv .0) h), s .pre .room)
+add-if1 c = let s = c .before .before .before in let l = c .before .before .loop in omega (arith, s .pre .ends (l .i) (l .inv .0) (c .before .loop-test .taken), s .pre .room)
 
 mul-if1 : tie.Need-mul-if1 Inv-loop μ-loop
-mul-if1 c = let s = c .before .before .before .before in
-    let l = c .before .before .before .loop in
-    let h = c .before .before .loop-test .taken in
-    omega (arith, s .pre .ends (getD (s .args .w .now) (s .args .eb + l .i) 0) (s .pre .edges (l .i) (l .inv .0) h), s .pre .room)
+mul-if1 c = let s = c .before .before .before in let l = c .before .before .loop in omega (arith, s .pre .ends (l .i) (l .inv .0) (c .before .loop-test .taken), s .pre .room)
 
 shared-slice-read-if1 : tie.Need-shared-slice-read-if1 Inv-loop μ-loop
-shared-slice-read-if1 c = let s = c .before .before .before .before .before in
-    let l = c .before .before .before .before .loop in
-    let h = c .before .before .before .loop-test .taken in
-    omega (arith, s .pre .ends (getD (s .args .w .now) (s .args .eb + l .i) 0) (s .pre .edges (l .i) (l .inv .0) h), s .pre .room)
+shared-slice-read-if1 c = let s = c .before .before .before .before in let l = c .before .before .before .loop in omega (arith, s .pre .ends (l .i) (l .inv .0) (c .before .before .loop-test .taken), s .pre .room)
 
 returns : tie.Need-returns Inv-loop μ-loop
-returns c = let l = c .before .before .before .before .before .loop in record { least = l .inv .0; most = l .inv .1; passed = l .inv .2; stop = λ _. c .if1 .taken }
+returns c = let l = c .before .before .before .before .loop in record { least = l .inv .0; most = l .inv .1; passed = l .inv .2; stop = λ _. c .if1 .taken }
 
 add-i : tie.Need-add-i Inv-loop μ-loop
 add-i c = omega arith
@@ -77,12 +47,12 @@ loop-less : tie.Need-loop-less Inv-loop μ-loop
 loop-less c = omega arith
 
 loop-again : tie.Need-loop-again Inv-loop μ-loop
-loop-again c = let s = c .before .before .before .before .before .before in
-    let l = c .before .before .before .before .before .loop in
+loop-again c = let s = c .before .before .before .before .before in
+    let l = c .before .before .before .before .loop in
     let w = s .args .w .now in (
       omega arith,
       omega arith,
-      λ j a d. elim (ℕ-discrete j (l .i)) as (λ _. col (s .args .b) w (other w (s .args .eb) (s .args .to .now) j) ≡ s .args .q → ⊥) [
+      λ j a d. elim (ℕ-discrete j (l .i)) as (λ _. col (s .args .b) w (other w (s .args .eb) j) ≡ s .args .q → ⊥) [
         | yes y ↦ rw y (c .if1 .left)
         | no y ↦ l .inv .2 j a (omega arith)
       ],
@@ -98,10 +68,7 @@ find-spec =
     Inv-loop
     μ-loop
     loop-holds
-    add-e
-    mul-e
-    shared-slice-read-e
-    cast-e
+    add-x
     mul-x
     shared-slice-read-x
     cast-x

@@ -13,15 +13,13 @@ add-advance-2 : tie.Need-add-advance-2
 add-advance-2 c = search needs
 
 advance-requires : tie.Need-advance-requires
-advance-requires c κs = let s = c .before .before .before .before in tied-first (s .pre)
+advance-requires c κs = tied-first (c .before .before .pre .1)
 
 same-length : tie.Need-same-length
 same-length c = search needs
 
 returns : tie.Need-returns
-returns c = let at-advance = c .before .before .before in
-    let s = at-advance .before .before .before .before .before in
-    tied-none (s .pre) (at-advance .advance .ensures) (c .if1 .taken)
+returns c = λ g a. tied-none a (c .before .before .before .advance .ensures) (c .if1 .taken)
 
 add-advance-3 : tie.Need-add-advance-3
 add-advance-3 c = search needs
@@ -39,17 +37,13 @@ add-advance-6 : tie.Need-add-advance-6
 add-advance-6 c = search needs
 
 advance-requires-2 : tie.Need-advance-requires-2
-advance-requires-2 c κs = let at-advance = c .before .before .before .before in
-    let s = at-advance .before .before .before .before .before in
-    tied-second (s .pre) (at-advance .advance .ensures)
+advance-requires-2 c κs = tied-second (c .before .before .before .before .before .before .before .pre .1) (c .before .before .before .before .advance .ensures)
 
 same-length-2 : tie.Need-same-length-2
 same-length-2 c = search needs
 
 returns-2 : tie.Need-returns-2
-returns-2 c = let at-advance = c .before .before .before .before .before .before .before in
-    let s = at-advance .before .before .before .before .before in
-    tied-all (s .pre) (at-advance .advance .ensures) (c .before .before .advance2 .ensures) (c .before .before .before .before .if1 .left)
+returns-2 c = λ g a. tied-all a (c .before .before .before .before .before .before .before .advance .ensures) (c .before .before .advance2 .ensures) (c .before .before .before .before .if1 .left)
 
 pub tied-spec : {M : Type 1} → statement M
 tied-spec =

@@ -1,7 +1,7 @@
 use native.Mathlib.Omega.{arith}
 use lib.ListN.{length-set}
 use borrow.Author.Needs.{needs}
-use Rattle.trim.proofs.Goes.{examine-skip, k-low, examine-stay, examine-go}
+use Rattle.trim.proofs.Goes.{examine-skip, tied-ask, k-low, examine-stay, examine-go}
 use Rattle.trim.proofs.prune.examine.Statement.{statement}
 use Rattle.trim.proofs.prune.examine.Tie as tie
 
@@ -15,19 +15,24 @@ slice-read-if1 : tie.Need-slice-read-if1
 slice-read-if1 c = search needs
 
 returns : tie.Need-returns
-returns c = let s = c .before .before .before .before .before in examine-skip (s .pre) (c .if1 .taken)
+returns c = λ g a. examine-skip a (c .if1 .taken)
 
 tied-requires : tie.Need-tied-requires
-tied-requires c κs = search needs
+tied-requires c κs = let s = c .before .before .before .before in (s .pre .0, tied-ask (s .pre .1) (c .before .if1 .left))
 
 same-length : tie.Need-same-length
-same-length c = search needs
+same-length c =
+    let at-tied = c .before .before .before in
+    let at-if1 = at-tied .before .before in
+    let s = at-if1 .before .before .before in
+    let t = at-tied .tied .ensures (s .pre .0) (tied-ask (s .pre .1) (at-if1 .if1 .left)) in
+    t .long
 
 returns-2 : tie.Need-returns-2
-returns-2 c = let at-tied = c .before .before .before in
+returns-2 c =
+    let at-tied = c .before .before .before in
     let at-if1 = at-tied .before .before in
-    let s = at-if1 .before .before .before .before .before in
-    examine-stay (s .pre) (at-if1 .if1 .left) (at-tied .tied .ensures) (c .if2 .taken)
+    λ g a. examine-stay a (at-if1 .if1 .left) (at-tied .tied .ensures g (tied-ask a (at-if1 .if1 .left))) (c .if2 .taken)
 
 cast-w : tie.Need-cast-w
 cast-w c = search needs
@@ -39,7 +44,12 @@ mul-w : tie.Need-mul-w
 mul-w c = search needs
 
 slice-write-w : tie.Need-slice-write-w
-slice-write-w c = search needs
+slice-write-w c =
+    let at-tied = c .before .before .before in
+    let at-if1 = at-tied .before .before in
+    let s = at-if1 .before .before .before in
+    let t = at-tied .tied .ensures (s .pre .0) (tied-ask (s .pre .1) (at-if1 .if1 .left)) in
+    omega (arith, s .pre .1 .low, s .pre .1 .state .walking .long, t .long)
 
 cast-w-2 : tie.Need-cast-w-2
 cast-w-2 c = search needs
@@ -54,22 +64,29 @@ mul-w-2 : tie.Need-mul-w-2
 mul-w-2 c = search needs
 
 slice-write-w-2 : tie.Need-slice-write-w-2
-slice-write-w-2 c = let at-tied = c .before .before .before in
+slice-write-w-2 c =
+    let at-tied = c .before .before .before in
     let at-if1 = at-tied .before .before in
-    let s = at-if1 .before .before .before .before .before in
-    simp length-set (omega (arith, k-low (s .pre) (at-if1 .if1 .left), s .pre .state .walking .long, at-tied .tied .ensures .long))
+    let s = at-if1 .before .before .before in
+    let t = at-tied .tied .ensures (s .pre .0) (tied-ask (s .pre .1) (at-if1 .if1 .left)) in
+    simp length-set (omega (arith, k-low (s .pre .1) (at-if1 .if1 .left), s .pre .1 .state .walking .long, t .long))
 
 add-result : tie.Need-add-result
 add-result c = search needs
 
 same-length-2 : tie.Need-same-length-2
-same-length-2 c = search needs
+same-length-2 c =
+    let at-tied = c .before .before .before in
+    let at-if1 = at-tied .before .before in
+    let s = at-if1 .before .before .before in
+    let t = at-tied .tied .ensures (s .pre .0) (tied-ask (s .pre .1) (at-if1 .if1 .left)) in
+    simp length-set (t .long)
 
 returns-3 : tie.Need-returns-3
-returns-3 c = let at-tied = c .before .before .before in
+returns-3 c =
+    let at-tied = c .before .before .before in
     let at-if1 = at-tied .before .before in
-    let s = at-if1 .before .before .before .before .before in
-    examine-go (s .pre) (at-if1 .if1 .left) (at-tied .tied .ensures) (c .if2 .left)
+    λ g a. examine-go a (at-if1 .if1 .left) (at-tied .tied .ensures g (tied-ask a (at-if1 .if1 .left))) (c .if2 .left)
 
 pub examine-spec : {M : Type 1} → statement M
 examine-spec =

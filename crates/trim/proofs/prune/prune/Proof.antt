@@ -1,32 +1,31 @@
-use borrow.Author.Needs.{needs}
 use Rattle.trim.proofs.Aims.{trim-aim}
 use Rattle.trim.proofs.Core.{pass-ask, drain-ask, trim-all}
 use Rattle.trim.proofs.prune.prune.Statement.{statement}
 use Rattle.trim.proofs.prune.prune.Tie as tie
 
 aim-requires : tie.Need-aim-requires
-aim-requires c κs = let s = c .before .before .before .before in trim-aim (s .pre)
+aim-requires c κs = trim-aim (c .before .before .pre .1)
 
 pass-requires : tie.Need-pass-requires
-pass-requires c κs = let at-aim = c .before .before .before in
-    let s = at-aim .before .before .before .before .before in
-    pass-ask (s .pre) (at-aim .aim .ensures)
+pass-requires c κs = let s = c .before .before .before .before .before .before in (s .pre .0, pass-ask (s .pre .1) (c .before .before .before .aim .ensures))
 
 drain-requires : tie.Need-drain-requires
-drain-requires c κs = let at-pass = c .before .before .before in
-    let at-aim = at-pass .before .before .before .before in
-    let s = at-aim .before .before .before .before .before in
-    drain-ask (s .pre) (at-aim .aim .ensures) (at-pass .pass .ensures)
+drain-requires c κs =
+    let s = c .before .before .before .before .before .before .before .before .before .before in
+    let x = c .before .before .before .before .before .before .before .aim .ensures in
+    (s .pre .0, drain-ask (s .pre .1) x (c .before .before .before .pass .ensures (s .pre .0) (pass-ask (s .pre .1) x)))
 
 same-length : tie.Need-same-length
-same-length c = search needs
+same-length c =
+    let s = c .before .before .before .before .before .before .before .before .before .before .before .before .before in
+    let x = c .before .before .before .before .before .before .before .before .before .before .aim .ensures in
+    let y = c .before .before .before .before .before .before .pass .ensures (s .pre .0) (pass-ask (s .pre .1) x) in
+    trim-all (s .pre .1) x y (c .before .before .drain .ensures (s .pre .0) (drain-ask (s .pre .1) x y)) .aside .long
 
 returns : tie.Need-returns
-returns c = let at-drain = c .before .before in
-    let at-pass = at-drain .before .before .before .before in
-    let at-aim = at-pass .before .before .before .before in
-    let s = at-aim .before .before .before .before .before in
-    trim-all (s .pre) (at-aim .aim .ensures) (at-pass .pass .ensures) (at-drain .drain .ensures)
+returns c =
+    let x = c .before .before .before .before .before .before .before .before .before .before .aim .ensures in
+    λ g a. let y = c .before .before .before .before .before .before .pass .ensures g (pass-ask a x) in trim-all a x y (c .before .before .drain .ensures g (drain-ask a x y))
 
 pub prune-spec : {M : Type 1} → statement M
 prune-spec = tie.close (tie.spec aim-requires pass-requires drain-requires same-length returns)

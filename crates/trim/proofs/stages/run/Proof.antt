@@ -1,4 +1,6 @@
 use borrow.Author.Needs.{needs}
+use Rattle.graph.specs.Graph.{graph}
+use Rattle.graph.specs.Arrows.{arrows}
 use Rattle.trim.proofs.Whole.{both-ask, colour-ask, string-ask, trim-ask, collect-ask, ran}
 use Rattle.trim.proofs.stages.run.Statement.{statement}
 use Rattle.trim.proofs.stages.run.Tie as tie
@@ -34,7 +36,7 @@ prune-requires c κs = let at-string = c .before .before .before in
     let at-colour = at-string .before .before .before .before in
     let at-both = at-colour .before .before .before .before in
     let s = at-both .before .before .before .before .before .before .before in
-    trim-ask (s .pre) (at-both .both .ensures) (at-colour .colour .ensures) (at-string .string .ensures)
+    (arrows (graph (s .args .n) (s .args .sources .now) (s .args .targets .now)), trim-ask (s .pre) (at-both .both .ensures) (at-colour .colour .ensures) (at-string .string .ensures))
 
 zero-words-requires : tie.Need-zero-words-requires
 zero-words-requires c κs = search needs
@@ -46,7 +48,7 @@ collect-requires c κs = let at-zero = c .before .before .before .before in
     let at-colour = at-string .before .before .before .before in
     let at-both = at-colour .before .before .before .before in
     let s = at-both .before .before .before .before .before .before .before in
-    collect-ask (s .pre) (at-both .both .ensures) (at-colour .colour .ensures) (at-string .string .ensures) (at-prune .prune .ensures) (at-zero .zero-words .ensures)
+    collect-ask (s .pre) (at-both .both .ensures) (at-colour .colour .ensures) (at-string .string .ensures) (at-prune .prune .ensures (arrows (graph (s .args .n) (s .args .sources .now) (s .args .targets .now))) (trim-ask (s .pre) (at-both .both .ensures) (at-colour .colour .ensures) (at-string .string .ensures))) (at-zero .zero-words .ensures)
 
 same-length : tie.Need-same-length
 same-length c = search needs
@@ -62,7 +64,7 @@ returns c = let at-collect = c .before .before in
     let at-colour = at-string .before .before .before .before in
     let at-both = at-colour .before .before .before .before in
     let s = at-both .before .before .before .before .before .before .before in
-    ran (s .pre) (at-both .both .ensures) (at-colour .colour .ensures) (at-string .string .ensures) (at-prune .prune .ensures) (at-zero .zero-words .ensures) (at-collect .collect .ensures)
+    ran (s .pre) (at-both .both .ensures) (at-colour .colour .ensures) (at-string .string .ensures) (at-prune .prune .ensures (arrows (graph (s .args .n) (s .args .sources .now) (s .args .targets .now))) (trim-ask (s .pre) (at-both .both .ensures) (at-colour .colour .ensures) (at-string .string .ensures))) (at-zero .zero-words .ensures) (at-collect .collect .ensures)
 
 pub run-spec : {M : Type 1} → statement M
 run-spec =
