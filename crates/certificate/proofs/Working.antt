@@ -1,7 +1,7 @@
 -- The stages together: the certificate stands in the regions, or the labels are not right.
 use Prim.Native.Nat.{ℕ, _+_, _*_, _≤_, _<_}
 use native.Mathlib.Omega.{arith}
-use mathlib.Core.Path.{_≡_, refl, sym, _∙_}
+use mathlib.Core.Path.{_≡_, refl, sym, subst, _∙_}
 use mathlib.Core.Logic.{_⊎_, inl, inr}
 use mathlib.Core.Bool.{Bool, true, false, cond, not}
 use mathlib.Core.List.{List}
@@ -9,15 +9,17 @@ use lib.ListN.{length, getD}
 use lib.Dec.{T, eqb}
 use borrow.Author.Tests.{not-true, not-false}
 use Rattle.graph.specs.Graph.{Graph, graph, Valid, Chain, rev, edges}
+use Rattle.graph.specs.Arrows.{Some, Every, arrows, back}
 use Rattle.graph.specs.Limits.{mostEdges}
 use Rattle.graph.specs.Checker.{at, noEdge, entry}
 use Rattle.graph.specs.Numbers.{least}
 use Rattle.graph.specs.Certificate.{Right, certificate, distOf, rankOf, distances, entries, ranks}
 use Rattle.graph.proofs.Tests.{getD-table}
-use Rattle.graph.proofs.Chains.{valid-rev, label-rev}
+use Rattle.graph.proofs.Chains.{valid-rev, label-rev, graph-turned}
 use Rattle.index.specs.Build.{BothAsk, Both}
 use Rattle.index.proofs.Asks.{valid-both}
-use Rattle.index.proofs.Moved.{indexed-kept}
+use Rattle.index.proofs.Counts.{start-all}
+use Rattle.index.proofs.Moved.{held-kept}
 use Rattle.classes.specs.Classes.{class, OwnLabels, Distances}
 use Rattle.regions.specs.Regions.{region, inDistances, outDistances, inEdges, outEdges, ranksAt, countsAt}
 use Rattle.ranks.specs.Ranks.{Peeled, Stuck}
@@ -39,26 +41,35 @@ module _ {n : ℕ} {sources targets lab : List ℕ} {b : ℕ} {w : List ℕ} (a 
   abbrev g : Graph
   g = graph n sources targets
 
-  pub both-ask : BothAsk sources targets n w
+  pub both-ask : BothAsk g w
   both-ask = valid-both (a .ask .valid) (a .ask .small) (a .ask .few) (omega (arith, a .ask .room))
 
-  module _ (w₁ : List ℕ) (x : Both sources targets n w w₁) where
-    pub there-ask : DistancesAsk g lab 0 b w₁
-    there-ask =
+  module _ (w₁ : List ℕ) (x : Both g w w₁) where
+    behind : (j : ℕ) → b ≤ j → getD w₁ j 0 ≡ getD w j 0
+    behind j l = x .rest j (omega (arith, a .place, start-all (λ e. true) targets (length sources) n))
+
+    forward : DistancesAsk g lab 0 b w₁
+    forward =
         record {
-          laid = record { valid = a .ask .valid; counts = a .ask .counted; few = a .ask .few; below = omega (arith, a .place); index = x .forward };
+          laid = record { valid = a .ask .valid; few = a .ask .few; below = omega (arith, a .place); index = x .forward };
           small = a .ask .small;
           size = a .ask .size;
           own = a .own;
           fits = omega (arith, a .ask .room, a .place, x .long);
         }
 
-    module _ (w₂ : List ℕ) (r : Bool) (y : Measured g lab b w₁ w₂ r) where
+    pub there-ask : Some n (λ g. DistancesAsk g lab 0 b w₁)
+    there-ask = (arrows g, forward)
+
+    module _ (w₂ : List ℕ) (r : Bool) (told : Every n (λ g. DistancesAsk g lab 0 b w₁ → Measured g lab b w₁ w₂ r)) where
+      there : Measured g lab b w₁ w₂ r
+      there = told (arrows g) forward
+
       pub find-stop : not r ≡ true → Found g lab b w w₂ false
       find-stop q =
           record {
-            beyond = record { long = y .kept .long ∙ x .long; rest = λ j l. y .kept .high j (omega arith) ∙ x .rest j (omega (arith, a .place)) };
-            either = inr (refl, go (y .either));
+            beyond = record { long = there .kept .long ∙ x .long; rest = λ j l. there .kept .high j (omega arith) ∙ behind j (omega arith) };
+            either = inr (refl, go (there .either));
           }
         where
           go : ((r ≡ true) × Distances g lab (region b w₂) × ((v : ℕ) → v < n → region b w₂ v < n))
@@ -68,42 +79,46 @@ module _ {n : ℕ} {sources targets lab : List ℕ} {b : ℕ} {w : List ℕ} (a 
 
       module _ (q : not r ≡ false) where
         there-found : Distances g lab (region b w₂) × ((v : ℕ) → v < n → region b w₂ v < n)
-        there-found = go (y .either)
+        there-found = go (there .either)
           where
             go : ((r ≡ true) × Distances g lab (region b w₂) × ((v : ℕ) → v < n → region b w₂ v < n))
                 ⊎ ((r ≡ false) × ((v : ℕ) × (v < n) × ((h : ℕ) → Chain g (class lab (at lab v)) h (at lab v) v → ⊥))) → Distances g lab (region b w₂) × ((v : ℕ) → v < n → region b w₂ v < n)
             go (inl (_, p, l)) = (p, l)
             go (inr (p, _)) = absurd (clash r (not-false r q) p)
 
-        pub back-ask : DistancesAsk (graph n targets sources) lab (n + 1 + length sources) (b + n) w₂
-        back-ask =
+        backward : DistancesAsk (rev g) lab (n + 1 + length sources) (b + n) w₂
+        backward =
             record {
               laid =
                   record {
                     valid = valid-rev (a .ask .valid);
-                    counts = a .ask .counted;
-                    few = omega (arith, a .ask .few, a .ask .valid .same);
-                    below = omega (arith, a .place, a .ask .valid .same);
-                    index = indexed-kept targets n (n + 1 + length sources) w₁ w₂ (λ e m. a .ask .valid .to-low e (omega (arith, a .ask .valid .same)))
-                        (λ j l m. y .kept .low j (omega (arith, a .place, a .ask .valid .same))) (x .reverse);
+                    few = a .ask .few;
+                    below = omega (arith, a .place);
+                    index = held-kept (rev g) (n + 1 + length sources) w₁ w₂ (λ j l m. there .kept .low j (omega (arith, a .place))) (x .reverse);
                   };
               small = a .ask .small;
               size = a .ask .size;
               own = a .own;
-              fits = omega (arith, a .ask .room, a .place, x .long, y .kept .long);
+              fits = omega (arith, a .ask .room, a .place, x .long, there .kept .long);
             }
 
-        pub find-end : (w₃ : List ℕ) (s : Bool) → Measured (graph n targets sources) lab (b + n) w₂ w₃ s → Found g lab b w w₃ s
-        find-end w₃ s z =
+        pub back-ask : Some n (λ g. DistancesAsk g lab (n + 1 + length sources) (b + n) w₂)
+        back-ask = (back (arrows g), backward)
+
+        pub find-end : (w₃ : List ℕ) (s : Bool) → Every n (λ g. DistancesAsk g lab (n + 1 + length sources) (b + n) w₂ → Measured g lab (b + n) w₂ w₃ s) → Found g lab b w w₃ s
+        find-end w₃ s told-back =
             record {
               beyond =
                   record {
-                    long = z .kept .long ∙ y .kept .long ∙ x .long;
-                    rest = λ j l. z .kept .high j (omega arith) ∙ y .kept .high j (omega arith) ∙ x .rest j (omega (arith, a .place));
+                    long = z .kept .long ∙ there .kept .long ∙ x .long;
+                    rest = λ j l. z .kept .high j (omega arith) ∙ there .kept .high j (omega arith) ∙ behind j (omega arith);
                   };
               either = go (z .either);
             }
           where
+            z : Measured (rev g) lab (b + n) w₂ w₃ s
+            z = told-back (back (arrows g)) backward
+
             kept-there : (v : ℕ) → v < n → region b w₃ v ≡ region b w₂ v
             kept-there v l = z .kept .low (b + v) (omega arith)
 
@@ -111,24 +126,33 @@ module _ {n : ℕ} {sources targets lab : List ℕ} {b : ℕ} {w : List ℕ} (a 
                 ⊎ ((s ≡ false) × ((v : ℕ) × (v < n) × ((h : ℕ) → Chain (rev g) (class lab (at lab v)) h (at lab v) v → ⊥)))
                 → ((s ≡ true) × Near g lab b w₃) ⊎ ((s ≡ false) × (Right g lab → ⊥))
             go (inr (p, u)) = inr (p, λ right. unreached (valid-rev (a .ask .valid)) lab u (λ v l. label-rev (a .ask .valid) (right v l)))
-            go (inl (p, back, back-low)) =
+            go (inl (p, far, far-low)) =
                 inl (
                   p,
                   record {
-                    index = indexed-kept sources n 0 w₁ w₃ (a .ask .valid .from-low) (λ j l m. z .kept .low j (omega (arith, a .place)) ∙ y .kept .low j (omega (arith, a .place))) (x .forward);
                     there = λ v l. rw (kept-there v l) (there-found .0 v l);
                     there-low = λ v l. rw (kept-there v l) (there-found .1 v l);
-                    back = back;
-                    back-low = back-low;
+                    back = far;
+                    back-low = far-low;
                   },
                 )
 
 module _ {n : ℕ} {sources targets lab : List ℕ} {b : ℕ} {w : List ℕ} (a : CompleteAsk (graph n sources targets) lab b w)
     (w₁ : List ℕ) (x : Entered (graph n sources targets) lab b (b + 3 * n) w w₁) where
-  pub leave-ask : EntriesAsk (graph n targets sources) lab (b + n) (b + 4 * n) w₁
-  leave-ask = record { valid = valid-rev (a .valid); size = a .size; few = omega (arith, a .few, a .valid .same); apart = omega arith; room = omega (arith, a .room, x .framed .long) }
+  -- the entries of the exchanged columns are those of the table turned
+  turned : graph n targets sources ≡ rev (graph n sources targets)
+  turned = graph-turned n sources targets (a .valid .same)
 
-  module _ (w₂ : List ℕ) (y : Entered (graph n targets sources) lab (b + n) (b + 4 * n) w₁ w₂) where
+  leaving : EntriesAsk (rev (graph n sources targets)) lab (b + n) (b + 4 * n) w₁
+  leaving = record { valid = valid-rev (a .valid); size = a .size; few = a .few; apart = omega arith; room = omega (arith, a .room, x .framed .long) }
+
+  pub leave-ask : EntriesAsk (graph n targets sources) lab (b + n) (b + 4 * n) w₁
+  leave-ask = subst (λ (g : Graph). EntriesAsk g lab (b + n) (b + 4 * n) w₁) (sym turned) leaving
+
+  module _ (w₂ : List ℕ) (left : Entered (graph n targets sources) lab (b + n) (b + 4 * n) w₁ w₂) where
+    y : Entered (rev (graph n sources targets)) lab (b + n) (b + 4 * n) w₁ w₂
+    y = subst (λ (g : Graph). Entered g lab (b + n) (b + 4 * n) w₁ w₂) turned left
+
     front-two : (j : ℕ) → j < b + 3 * n → getD w₂ j 0 ≡ getD w j 0
     front-two j l = y .framed .low j (omega arith) ∙ x .framed .low j l
 
@@ -144,7 +168,7 @@ module _ {n : ℕ} {sources targets lab : List ℕ} {b : ℕ} {w : List ℕ} (a 
                 few = a .few;
                 fits = omega (arith, a .room, x .framed .long, y .framed .long);
               };
-          index = indexed-kept sources n 0 w w₂ (a .valid .from-low) (λ j l m. front-two j (omega (arith, a .below))) (a .index);
+          counts = a .counts;
           below = a .below;
         }
 
@@ -153,23 +177,23 @@ module _ {n : ℕ} {sources targets lab : List ℕ} {b : ℕ} {w : List ℕ} (a 
         record {
           beyond =
               record {
-                long = z .frame .long ∙ y .framed .long ∙ x .framed .long;
-                rest = λ j l. z .frame .high j (omega arith) ∙ y .framed .high j (omega arith) ∙ x .framed .high j (omega arith);
+                long = z .long ∙ y .framed .long ∙ x .framed .long;
+                rest = λ j l. z .high j (omega arith) ∙ y .framed .high j (omega arith) ∙ x .framed .high j (omega arith);
               };
-          front = λ j l. z .frame .low j l ∙ front-two j (omega arith);
+          kept = λ j l m. z .low j (omega (arith, a .below)) m ∙ front-two j (omega arith);
           enters = λ v l. rw (in-now v l) (x .entries (region (inDistances n b) w) (λ u m. refl) v l);
           leaves = λ v l. rw (out-now v l) (y .entries (region (outDistances n b) w) (λ u m. x .framed .low (b + n + u) (omega arith)) v l);
           either = z .either (region (inEdges n b) w₃) (λ v l. sym (in-kept v l));
         }
       where
         in-kept : (v : ℕ) → v < n → region (inEdges n b) w₃ v ≡ region (inEdges n b) w₂ v
-        in-kept v l = z .frame .mid (inEdges n b + v) (omega arith) (omega arith)
+        in-kept v l = z .mid (inEdges n b + v) (omega arith) (omega arith)
 
         in-now : (v : ℕ) → v < n → region (inEdges n b) w₃ v ≡ region (inEdges n b) w₁ v
         in-now v l = in-kept v l ∙ y .framed .low (inEdges n b + v) (omega arith)
 
         out-now : (v : ℕ) → v < n → region (outEdges n b) w₃ v ≡ region (outEdges n b) w₂ v
-        out-now v l = z .frame .mid (outEdges n b + v) (omega arith) (omega arith)
+        out-now v l = z .mid (outEdges n b + v) (omega arith) (omega arith)
 
 -- THE CERTIFICATE: distances, entries and ranks that fit one another are those of the certificate, and the labels are right
 module _ {g : Graph} {lab : List ℕ} {b : ℕ} {w w′ : List ℕ} (ok : Valid g) (counted : (e : ℕ) → T (g .counted e)) (few : edges g ≤ mostEdges)
@@ -223,9 +247,9 @@ module _ {g : Graph} {lab : List ℕ} {b : ℕ} {w w′ : List ℕ} (ok : Valid 
           right = now-right;
           rank = at-rank;
           inEdge = at-enter;
-          inDist = λ v l. y .front (inDistances (g .n) b + v) (omega arith) ∙ at-dist v l;
+          inDist = λ v l. y .kept (inDistances (g .n) b + v) (omega arith) (omega arith) ∙ at-dist v l;
           outEdge = at-leave;
-          outDist = λ v l. y .front (outDistances (g .n) b + v) (omega arith) ∙ at-back v l;
+          outDist = λ v l. y .kept (outDistances (g .n) b + v) (omega arith) (omega arith) ∙ at-back v l;
         }
 
   pub never-stuck : Stuck g lab (region (inEdges (g .n) b) w′) (region (countsAt (g .n) b) w′) → Right g lab → ⊥
@@ -266,13 +290,13 @@ module _ {n : ℕ} {sources targets lab : List ℕ} {w : List ℕ} (a : WorkAsk 
       complete-ask =
           record {
             valid = a .valid;
+            counts = a .counts;
             size = a .size;
             own = own;
             small = a .small;
             few = a .few;
             below = omega arith;
             room = omega (arith, a .room, x .beyond .long);
-            index = near-now .index;
           }
 
       pub work-end : (w₂ : List ℕ) (s : Bool) → Completed t lab (base t) w₁ w₂ s → Worked t lab (base t) w w₂ s
@@ -289,5 +313,5 @@ module _ {n : ℕ} {sources targets lab : List ℕ} {w : List ℕ} (a : WorkAsk 
           go : ((s ≡ true) × Peeled t lab (region (inEdges n (base t)) w₂) (region (ranksAt n (base t)) w₂))
               ⊎ ((s ≡ false) × Stuck t lab (region (inEdges n (base t)) w₂) (region (countsAt n (base t)) w₂))
               → ((s ≡ true) × Made t lab (base t) w₂) ⊎ ((s ≡ false) × (Right t lab → ⊥))
-          go (inl (p, z)) = inl (p, now-made (a .valid) (λ e. tt) (a .few) own near-now y z)
-          go (inr (p, z)) = inr (p, never-stuck (a .valid) (λ e. tt) (a .few) own near-now y z)
+          go (inl (p, z)) = inl (p, now-made (a .valid) (a .counts) (a .few) own near-now y z)
+          go (inr (p, z)) = inr (p, never-stuck (a .valid) (a .counts) (a .few) own near-now y z)

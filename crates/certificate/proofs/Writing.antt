@@ -72,7 +72,7 @@ module _ (c : Call) where
     work-ask =
         record {
           valid = valid;
-          counted = λ e. refl;
+          counts = λ e. tt;
           size = ready .sized .label;
           small = ready .passed .small;
           few = ready .passed .few;

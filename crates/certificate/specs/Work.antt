@@ -5,11 +5,11 @@ use mathlib.Core.Bool.{Bool, true, false}
 use mathlib.Core.List.{List}
 use mathlib.Core.Logic.{_⊎_}
 use lib.ListN.{length, getD}
+use lib.Dec.{T}
 use Rattle.graph.specs.Graph.{Graph, Valid, rev, edges}
 use Rattle.graph.specs.Limits.{mostVertices, mostEdges, numbersNeeded}
 use Rattle.graph.specs.Checker.{at}
 use Rattle.graph.specs.Certificate.{Right, certificate}
-use Rattle.index.specs.Index.{Indexed}
 use Rattle.classes.specs.Classes.{OwnLabels, Distances}
 use Rattle.regions.specs.Regions.{region, inDistances, outDistances, inEdges, outEdges, ranksAt, countsAt, Copied}
 use Rattle.certificate.specs.Entries.{Entries}
@@ -26,7 +26,7 @@ pub record Beyond (k : ℕ) (w w' : List ℕ) : Type 0 where
 
 pub record WorkAsk (g : Graph) (lab : List ℕ) (w : List ℕ) : Type 0 where
   pub valid : Valid g
-  pub counted : (e : ℕ) → g .counted e ≡ true
+  pub counts : (e : ℕ) → T (g .counted e)
   pub size : length lab ≡ g .n
   pub small : g .n ≤ mostVertices
   pub few : edges g ≤ mostEdges
@@ -37,9 +37,8 @@ pub record FindAsk (g : Graph) (lab : List ℕ) (b : ℕ) (w : List ℕ) : Type 
   pub own : OwnLabels (g .n) lab
   pub place : b ≡ base g
 
--- the distances from and to the labels stand in their regions, and the forward index at the front
+-- the distances from and to the labels stand in their regions
 pub record Near (g : Graph) (lab : List ℕ) (b : ℕ) (w : List ℕ) : Type 0 where
-  pub index : Indexed (g .src) (g .n) 0 w
   pub there : Distances g lab (region (inDistances (g .n) b) w)
   pub there-low : (v : ℕ) → v < g .n → region (inDistances (g .n) b) w v < g .n
   pub back : Distances (rev g) lab (region (outDistances (g .n) b) w)
@@ -51,18 +50,18 @@ pub record Found (g : Graph) (lab : List ℕ) (b : ℕ) (w w' : List ℕ) (r : B
 
 pub record CompleteAsk (g : Graph) (lab : List ℕ) (b : ℕ) (w : List ℕ) : Type 0 where
   pub valid : Valid g
+  pub counts : (e : ℕ) → T (g .counted e)
   pub size : length lab ≡ g .n
   pub own : OwnLabels (g .n) lab
   pub small : g .n ≤ mostVertices
   pub few : edges g ≤ mostEdges
   pub below : g .n + 1 + edges g ≤ b
   pub room : b + 7 * g .n + 1 ≤ length w
-  pub index : Indexed (g .src) (g .n) 0 w
 
 -- the entries and the ranks for the distances that stand in w
 pub record Completed (g : Graph) (lab : List ℕ) (b : ℕ) (w w' : List ℕ) (r : Bool) : Type 0 where
   pub beyond : Beyond (b + 7 * g .n + 1) w w'
-  pub front : (j : ℕ) → j < b + 2 * g .n → getD w' j 0 ≡ getD w j 0
+  pub kept : (j : ℕ) → b ≤ j → j < b + 2 * g .n → getD w' j 0 ≡ getD w j 0
   pub enters : Entries g lab (region (inDistances (g .n) b) w) (region (inEdges (g .n) b) w')
   pub leaves : Entries (rev g) lab (region (outDistances (g .n) b) w) (region (outEdges (g .n) b) w')
   pub either : ((r ≡ true) × Peeled g lab (region (inEdges (g .n) b) w') (region (ranksAt (g .n) b) w'))

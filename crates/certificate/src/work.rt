@@ -2,7 +2,7 @@
 ghost use Prim.Native.Nat.{_+_, _*_};
 ghost use lib.ListN.{length};
 ghost use Rattle.graph.specs.Graph.{graph};
-ghost use Rattle.certificate.specs.Work.{base, FindAsk, Found, CompleteAsk, Completed, WorkAsk, Worked};
+ghost use Rattle.certificate.specs.Work.{FindAsk, Found, CompleteAsk, Completed, WorkAsk, Worked};
 use crate::entries;
 use index::build;
 
@@ -12,10 +12,11 @@ fn find(sources: &[u32], targets: &[u32], n: usize, label: &[u32], w: &mut [u32]
     ensures { λ r. ⌜ Found (graph n (now (sources .entry)) (now (targets .entry))) (now (label .entry)) b (now (w .entry)) (now (w .exit)) r ⌝ }
 {
     build::both(sources, targets, n, w);
-    if !classes::distances(sources, targets, n, label, w, 0, b) {
+    if !classes::distances(n, label, w, 0, b) {
         return false;
     }
-    classes::distances(targets, sources, n, label, w, n + 1 + sources.len(), b + n)
+    let k = n + 1 + sources.len();
+    classes::distances(n, label, w, k, b + n)
 }
 
 // The entries both ways and the ranks; false if some class never goes.

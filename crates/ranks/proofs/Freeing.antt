@@ -16,8 +16,13 @@ use Rattle.graph.specs.Memory.{Framed}
 use Rattle.graph.proofs.Memory.{framed-none, framed-more}
 use Rattle.graph.proofs.Counts.{many-le}
 use Rattle.graph.proofs.Ranges.{many-ext, many-next}
+use Rattle.graph.proofs.Tests.{length-table}
 use Rattle.regions.specs.Regions.{region, queueAt, inEdges, ranksAt, countsAt, Holds, Filled}
-use Rattle.index.proofs.Moved.{indexed-kept}
+use Rattle.index.specs.Index.{numbered}
+use Rattle.index.specs.Build.{One, OneAsk}
+use Rattle.index.proofs.Asks.{valid-column}
+use Rattle.index.proofs.Counts.{start-all}
+use Rattle.index.proofs.Moved.{held-kept}
 use Rattle.ranks.specs.Ranks.{lead, awaited, Peeled, Stuck}
 use Rattle.ranks.specs.Peel.{Counted, Freed, Frees, Peels, RanksAsk, Ranking, PeelAsk, AfterPeel, Ended, Ranked}
 use Rattle.regions.proofs.Storing.{set-framed}
@@ -117,10 +122,21 @@ module _ (n b : ℕ) (w₀ : List ℕ) where
         before : (i : ℕ) → i < k → region (queueAt n b) (set w (queueAt n b + k) v) i ≡ region (queueAt n b) w i
         before i l = getD-set-other w (queueAt n b + k) (queueAt n b + i) v 0 (λ y. omega arith)
 
--- The counts, an empty set of edges gone, and the queue: peeling may begin.
-module _ {g : Graph} {lab : List ℕ} {b : ℕ} {w w₁ w₂ w₃ : List ℕ} {k : ℕ} (a : RanksAsk g lab b w)
-    (f : Filled (ranksAt (g .n) b) (g .n) 0 w w₁) (c : Counted g lab b w₁ w₂) (q : Frees (g .n) b (g .n) w₂ w₃ k) where
-  pub begin-frame : Ranking (g .n) b w w₃
+-- there is room for the edge numbers
+pub numbers-ask : {g : Graph} {lab : List ℕ} {b : ℕ} {w : List ℕ} → RanksAsk g lab b w → OneAsk (numbered g) w
+numbers-ask {g} a = record {
+  column = valid-column (a .ground .valid) (a .ground .small) (a .ground .few);
+  even = length-table (edges g) (λ (e : ℕ). e);
+  room = omega (arith, a .below, a .ground .fits);
+}
+
+-- The edge numbers, the counts, an empty set of edges gone, and the queue: peeling may begin.
+module _ {g : Graph} {lab : List ℕ} {b : ℕ} {w w₀ w₁ w₂ w₃ : List ℕ} {k : ℕ} (a : RanksAsk g lab b w) (x : One (numbered g) w w₀)
+    (f : Filled (ranksAt (g .n) b) (g .n) 0 w₀ w₁) (c : Counted g lab b w₁ w₂) (q : Frees (g .n) b (g .n) w₂ w₃ k) where
+  behind : (j : ℕ) → g .n + 1 + edges g ≤ j → getD w₀ j 0 ≡ getD w j 0
+  behind j l = x .rest j (omega (arith, start-all (g .counted) (g .src) (edges g) (g .n)))
+
+  begin-frame : Ranking (g .n) b w₀ w₃
   begin-frame =
       record {
         long = q .framed .long ∙ c .framed .long ∙ f .framed .long;
@@ -139,7 +155,7 @@ module _ {g : Graph} {lab : List ℕ} {b : ℕ} {w w₁ w₂ w₃ : List ℕ} {k
     begin-peels : Peels g lab inEdge (λ x. false) b w₃ k 0
     begin-peels =
         record {
-          counts = λ v l. counts-now v l ∙ c .counts inEdge (λ v l. f .framed .low (inEdges (g .n) b + v) (omega arith) ∙ h v l) v l;
+          counts = λ v l. counts-now v l ∙ c .counts inEdge (λ v l. f .framed .low (inEdges (g .n) b + v) (omega arith) ∙ behind (inEdges (g .n) b + v) (omega (arith, a .below)) ∙ h v l) v l;
           member = λ i l. let (m, z) = q .member i l in (m, counts-now _ m ∙ z);
           listed = λ v l z. q .listed v l (sym (counts-now v l) ∙ z);
           once = q .once;
@@ -160,23 +176,30 @@ module _ {g : Graph} {lab : List ℕ} {b : ℕ} {w w₁ w₂ w₃ : List ℕ} {k
                 labels-low = a .ground .labels-low;
                 small = a .ground .small;
                 few = a .ground .few;
-                fits = omega (arith, a .ground .fits, begin-frame .long);
+                fits = omega (arith, a .ground .fits, begin-frame .long, x .long);
               };
-          index = indexed-kept (g .src) (g .n) 0 w w₃ (a .ground .valid .from-low) (λ j l m. begin-frame .low j (omega (arith, a .below))) (a .index);
+          counts = a .counts;
+          index = held-kept (numbered g) 0 w₀ w₃ (λ j l m. begin-frame .low j (omega (arith, a .below))) (x .index);
           below = a .below;
           inEdge = inEdge;
-          holds = λ v l. begin-frame .mid (inEdges (g .n) b + v) (omega arith) (omega arith) ∙ h v l;
+          holds = λ v l. begin-frame .mid (inEdges (g .n) b + v) (omega arith) (omega arith) ∙ behind (inEdges (g .n) b + v) (omega (arith, a .below)) ∙ h v l;
           peels = begin-peels;
         }
 
   pub ranks-end : (w′ : List ℕ) (k′ : ℕ) → AfterPeel g lab b k w₃ w′ k′ → Ranked g lab b w w′ (eqb k′ (g .n))
   unfolding begin
-  ranks-end w′ k′ x =
+  ranks-end w′ k′ y =
       record {
-        frame = ranking-more begin-frame (x .frame);
-        either = λ inEdge h. by inEdge (x .ended (begin inEdge h));
+        long = frame .long ∙ x .long;
+        low = λ j l m. frame .low j m ∙ behind j l;
+        mid = λ j l m. frame .mid j l m ∙ behind j (omega (arith, a .below));
+        high = λ j l. frame .high j l ∙ behind j (omega (arith, a .below));
+        either = λ inEdge h. by inEdge (y .ended (begin inEdge h));
       }
     where
+      frame : Ranking (g .n) b w₀ w′
+      frame = ranking-more begin-frame (y .frame)
+
       by : (inEdge : ℕ → ℕ) → Ended g lab b w′ k′ inEdge
           → ((eqb k′ (g .n) ≡ true) × Peeled g lab inEdge (region (ranksAt (g .n) b) w′)) ⊎ ((eqb k′ (g .n) ≡ false) × Stuck g lab inEdge (region (countsAt (g .n) b) w′))
       by inEdge (inl (z, p)) = inl (eq-eqb k′ (g .n) z, p)

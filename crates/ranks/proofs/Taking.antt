@@ -12,9 +12,10 @@ use lib.Dec.{T, eqb}
 use borrow.Author.Tests.{eqb-true, eqb-false}
 use Rattle.graph.specs.Graph.{Graph, edges, from}
 use Rattle.graph.proofs.Counts.{many-le}
-use Rattle.index.specs.Index.{Index}
+use Rattle.index.specs.Index.{Adjacent, first, numbered}
 use Rattle.index.proofs.Counts.{start-mono, start-all}
-use Rattle.index.proofs.Moved.{index-same}
+use Rattle.index.proofs.Moved.{adjacent-same}
+use Rattle.index.proofs.Numbers.{number-at, number-found, number-rises}
 use Rattle.regions.specs.Regions.{region, queueAt, inEdges, ranksAt, countsAt}
 use Rattle.ranks.specs.Ranks.{lead, rise, awaited, Peeling, extends, Peeled, Stuck}
 use Rattle.ranks.specs.Peel.{Ranking, ScanAsk, AfterScan, PeelAsk, Taken, Ended}
@@ -48,10 +49,10 @@ module _ {g : Graph} {lab : List ℕ} {b k₀ : ℕ} {w₀ : List ℕ} (a : Peel
     abbrev u : ℕ
     u = region (queueAt (g .n) b) w h
 
-    -- the index is where it was
-    index-now : Index (g .src) (g .n) (λ v. getD w v 0) (λ i. getD w (g .n + 1 + i) 0)
+    -- the edge numbers are where they were
+    index-now : Adjacent (numbered g) (λ v. getD w v 0) (λ i. getD w (g .n + 1 + i) 0)
     index-now =
-        index-same (g .src) (g .n) (λ v. getD w₀ (0 + v) 0) (λ i. getD w₀ (0 + g .n + 1 + i) 0) (λ v. getD w v 0) (λ i. getD w (g .n + 1 + i) 0) (a .ground .valid .from-low)
+        adjacent-same (numbered g) (λ v. getD w₀ (0 + v) 0) (λ i. getD w₀ (0 + g .n + 1 + i) 0) (λ v. getD w v 0) (λ i. getD w (g .n + 1 + i) 0)
         (λ v m. let z : 0 + v ≡ v = omega arith in rw z (f .low v (omega (arith, a .below))))
         (λ i m. let z : 0 + g .n + 1 + i ≡ g .n + 1 + i = omega arith in rw z (f .low (g .n + 1 + i) (omega (arith, a .below))))
         (a .index)
@@ -59,11 +60,21 @@ module _ {g : Graph} {lab : List ℕ} {b k₀ : ℕ} {w₀ : List ℕ} (a : Peel
     pub u-low : u < g .n
     u-low = x .peels .member h l .0
 
+    -- where the row of u begins and ends
+    row-first : getD w u 0 ≡ first g u
+    row-first = index-now .offs u (omega (arith, u-low))
+
+    row-last : getD w (suc u) 0 ≡ first g (suc u)
+    row-last = index-now .offs (suc u) u-low
+
     pub row-order : getD w u 0 ≤ getD w (suc u) 0
-    row-order = omega (arith, index-now .offs u (omega (arith, u-low)), index-now .offs (suc u) u-low, start-mono (g .src) u (suc u) (omega arith))
+    row-order = omega (arith, row-first, row-last, start-mono (g .counted) (g .src) (edges g) u (suc u) (omega arith))
 
     pub row-end : getD w (suc u) 0 ≤ edges g
-    row-end = omega (arith, index-now .offs (suc u) u-low, start-mono (g .src) (suc u) (g .n) u-low, start-all (g .src) (g .n) (a .ground .valid .from-low))
+    row-end = omega (arith, row-last, start-all (g .counted) (g .src) (edges g) (suc u))
+
+    row-at : (j : ℕ) → getD w u 0 ≤ j → j < getD w (suc u) 0 → (getD w (g .n + 1 + j) 0 < edges g) × (from g (getD w (g .n + 1 + j) 0) ≡ u)
+    row-at j i m = let (e, q, _) = number-at g index-now u j (omega (arith, row-first)) (omega (arith, row-last)) in (e .0, q)
 
     fresh : (e : ℕ) → e < edges g → from g e ≡ u → x .done e ≡ false
     fresh e m q = go (x .done e) refl
@@ -96,8 +107,8 @@ module _ {g : Graph} {lab : List ℕ} {b k₀ : ℕ} {w₀ : List ℕ} (a : Peel
           order = row-order;
           below = omega (arith, row-end, a .below);
           vertex = u-low;
-          row = λ j i m. let (e, q) = index-now .ended u j u-low i m in (e, q, fresh (getD w (g .n + 1 + j) 0) e q);
-          rising = λ i j p q m. index-now .rising u i j u-low p q m;
+          row = λ j i m. let (e, q) = row-at j i m in (e, q, fresh (getD w (g .n + 1 + j) 0) e q);
+          rising = λ i j p q m. number-rises g index-now u i j (omega (arith, row-first)) q (omega (arith, row-last));
           source = x .peels .member h l .1;
           bound = omega (arith, x .peels .bounded u u-low);
         }
@@ -125,19 +136,20 @@ module _ {g : Graph} {lab : List ℕ} {b k₀ : ℕ} {w₀ : List ℕ} (a : Peel
             → T (x .done e) ⊎ ((j : ℕ) × (j < getD w (suc u) 0 - getD w u 0) × (row j ≡ e)) → (i : ℕ) × (i < h + 1) × (region (queueAt (g .n) b) w′ i ≡ from g e)
         found e m front (inl t) = let (i, j, q) = x .gone e m t in (i, omega arith, front i (omega arith) ∙ q)
         found e m front (inr (j, i, q)) =
-            let s : from g (row j) ≡ u = index-now .ended u (getD w u 0 + j) u-low (omega arith) (omega arith) .1 in
+            let s : from g (row j) ≡ u = row-at (getD w u 0 + j) (omega arith) (omega arith) .1 in
             (h, omega arith, front h l ∙ sym (rw q at s))
 
         sure : (e i : ℕ) → e < edges g → i < h + 1 → region (queueAt (g .n) b) w i ≡ from g e → Dec (i ≡ h) → T (extends (x .done) row (getD w (suc u) 0 - getD w u 0) e)
         sure e i m j q (no o) = extends-old (x .done) row (getD w (suc u) 0 - getD w u 0) e (x .all e i m (omega arith) q)
         sure e i m j q (yes y) =
             let s : from g e ≡ u = sym q ∙ ap (region (queueAt (g .n) b) w) y in
-            let (p, c, d, r) = index-now .all e m in
-            let c′ : getD w u 0 ≤ p = rw s at c in
-            let d′ : p < getD w (suc u) 0 = rw s at d in
+            let (p, c, d, r) = number-found g index-now e (m, a .counts e) in
+            let c′ : first g u ≤ p = rw s at c in
+            let d′ : p < first g (suc u) = rw s at d in
+            let c″ : getD w u 0 ≤ p = omega (arith, row-first) in
             let n : getD w u 0 + (p - getD w u 0) ≡ p = omega arith in
             let r′ : row (p - getD w u 0) ≡ e = rw n r in
-            rw r′ at (extends-new (x .done) row (getD w (suc u) 0 - getD w u 0) (p - getD w u 0) (omega arith))
+            rw r′ at (extends-new (x .done) row (getD w (suc u) 0 - getD w u 0) (p - getD w u 0) (omega (arith, row-last)))
 
     -- the same as the code reads it
     row-to : getD w (u + 1) 0 ≡ getD w (suc u) 0

@@ -11,7 +11,7 @@ use Rattle.graph.specs.Memory.{Framed}
 use Rattle.graph.specs.Graph.{Graph, Valid, edges, from}
 use Rattle.graph.specs.Limits.{mostVertices, mostEdges}
 use Rattle.graph.specs.Checker.{at}
-use Rattle.index.specs.Index.{Indexed}
+use Rattle.index.specs.Index.{Held, numbered}
 use Rattle.regions.specs.Regions.{region, queueAt, inEdges, ranksAt, countsAt, Holds}
 use Rattle.ranks.specs.Ranks.{awaited, Peeling, extend, extends, Peeled, Stuck}
 
@@ -72,7 +72,7 @@ pub record Settled (g : Graph) (lab : List ℕ) (b e k : ℕ) (w w' : List ℕ) 
 abbrev pub AfterSettle : Graph → List ℕ → (b e k : ℕ) → List ℕ → List ℕ → ℕ → Type 0
 AfterSettle g lab b e k w w' k' = (a : SettleAsk g lab b e k w) → Settled g lab b e k w w' k' (a .course)
 
--- the edge numbers at the places s .. t - 1 of the forward index are those of u, which waits for nothing
+-- the edge numbers at the places s .. t - 1 are those of u, which waits for nothing
 pub record ScanAsk (g : Graph) (lab : List ℕ) (b s t u k : ℕ) (w : List ℕ) : Type 0 where
   pub ground : Ground g lab b w
   pub course : Course g lab b k w
@@ -91,10 +91,11 @@ pub record Scanned (g : Graph) (lab : List ℕ) (b s j k : ℕ) (w w' : List ℕ
 abbrev pub AfterScan : Graph → List ℕ → (b s t u k : ℕ) → List ℕ → List ℕ → ℕ → Type 0
 AfterScan g lab b s t u k w w' k' = (a : ScanAsk g lab b s t u k w) → Scanned g lab b s t k w w' k' (a .course)
 
--- nothing has gone yet, and the queue holds what waits for nothing
+-- the front holds the edge numbers, and every edge counts; nothing has gone yet, and the queue holds what waits for nothing
 pub record PeelAsk (g : Graph) (lab : List ℕ) (b k : ℕ) (w : List ℕ) : Type 0 where
   pub ground : Ground g lab b w
-  pub index : Indexed (g .src) (g .n) 0 w
+  pub counts : (e : ℕ) → T (g .counted e)
+  pub index : Held (numbered g) 0 w
   pub below : g .n + 1 + edges g ≤ b
   pub inEdge : ℕ → ℕ
   pub holds : Holds (g .n) (inEdges (g .n) b) inEdge w
@@ -144,13 +145,17 @@ pub record Frees (n b e : ℕ) (w w' : List ℕ) (k : ℕ) : Type 0 where
   pub listed : (v : ℕ) → v < e → region (countsAt n b) w v ≡ 0 → (i : ℕ) × (i < k) × (region (queueAt n b) w' i ≡ v)
   pub once : (i j : ℕ) → i < j → j < k → region (queueAt n b) w' i ≡ region (queueAt n b) w' j → ⊥
 
+-- every edge counts, and there is room for the edge numbers at the front
 pub record RanksAsk (g : Graph) (lab : List ℕ) (b : ℕ) (w : List ℕ) : Type 0 where
   pub ground : Ground g lab b w
-  pub index : Indexed (g .src) (g .n) 0 w
+  pub counts : (e : ℕ) → T (g .counted e)
   pub below : g .n + 1 + edges g ≤ b
 
--- all have gone, and the ranks are found; or some stay, whatever the counts
+-- The front may have changed, the queue, the ranks and the counts. All have gone, and the ranks are found; or some stay, whatever the counts.
 pub record Ranked (g : Graph) (lab : List ℕ) (b : ℕ) (w w' : List ℕ) (r : Bool) : Type 0 where
-  pub frame : Ranking (g .n) b w w'
+  pub long : length w' ≡ length w
+  pub low : (j : ℕ) → g .n + 1 + edges g ≤ j → j < queueAt (g .n) b → getD w' j 0 ≡ getD w j 0
+  pub mid : (j : ℕ) → inEdges (g .n) b ≤ j → j < ranksAt (g .n) b → getD w' j 0 ≡ getD w j 0
+  pub high : (j : ℕ) → countsAt (g .n) b + g .n + 1 ≤ j → getD w' j 0 ≡ getD w j 0
   pub either : (inEdge : ℕ → ℕ) → Holds (g .n) (inEdges (g .n) b) inEdge w
       → ((r ≡ true) × Peeled g lab inEdge (region (ranksAt (g .n) b) w')) ⊎ ((r ≡ false) × Stuck g lab inEdge (region (countsAt (g .n) b) w'))

@@ -3,9 +3,8 @@ ghost use mathlib.Core.Path.{_≡_};
 ghost use Rattle.graph.specs.Graph.{graph};
 ghost use Rattle.regions.specs.Regions.{region, inEdges};
 ghost use Rattle.ranks.specs.Ranks.{lead, rise};
-ghost use Prim.Native.Nat.{_+_, _*_, _≤_};
-ghost use lib.ListN.{length};
-ghost use Rattle.ranks.specs.Peel.{Ground, Counted, FreeAsk, Freed, FreesAsk, Frees, RanksAsk, Ranked, EdgeAsk, SettleAsk, AfterSettle, ScanAsk, AfterScan, PeelAsk, AfterPeel, Ranking};
+ghost use Rattle.ranks.specs.Peel.{Ground, Counted, FreeAsk, Freed, FreesAsk, Frees, RanksAsk, Ranked, EdgeAsk, SettleAsk, AfterSettle, ScanAsk, AfterScan, PeelAsk, AfterPeel};
+use index::build;
 
 // The vertex that waits for edge e, n if none does.
 fn lead(
@@ -122,7 +121,7 @@ fn settle(
     k + 1
 }
 
-// The edges at the places s .. t - 1 of the forward index go; they leave u.
+// The edges whose numbers stand at the places s .. t - 1 go; they leave u.
 fn scan(
     sources: &[u32],
     targets: &[u32],
@@ -173,7 +172,7 @@ fn peel(
     k
 }
 
-// The ranks; false if some vertex never goes.
+// The ranks; false if some vertex never goes. The front of w becomes the numbers of the edges by their sources.
 pub fn ranks(
     sources: &[u32],
     targets: &[u32],
@@ -185,9 +184,11 @@ pub fn ranks(
     requires { ⌜ RanksAsk (graph n (now sources) (now targets)) (now label) b (now w) ⌝ }
     ensures { λ r. ⌜ Ranked (graph n (now (sources .entry)) (now (targets .entry))) (now (label .entry)) b (now (w .entry)) (now (w .exit)) r ⌝ }
 {
+    let k = n + 1 + sources.len();
+    build::numbers(sources, n, &mut w[..k]);
     regions::fill(w, b + 5 * n, n, 0);
     counts(sources, targets, n, label, w, b);
-    let k = frees(w, n, b);
-    let all = peel(sources, targets, n, label, w, b, k);
+    let h = frees(w, n, b);
+    let all = peel(sources, targets, n, label, w, b, h);
     all == n
 }

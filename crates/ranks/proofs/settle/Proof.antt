@@ -3,7 +3,6 @@ use native.Mathlib.Omega.{arith}
 use lib.ListN.{length-set}
 use borrow.Author.Needs.{needs}
 use Rattle.graph.specs.Graph.{graph}
-use Rattle.ranks.specs.Ranks.{lead, rise}
 use Rattle.ranks.proofs.Settling.{settle-none, t-low, queue-room, count-some, settle-stay, settle-join, rise-low}
 use Rattle.ranks.proofs.settle.Statement.{statement}
 use Rattle.ranks.proofs.settle.Tie as tie

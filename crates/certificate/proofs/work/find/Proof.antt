@@ -29,18 +29,18 @@ returns c =
     let start = at-both .before .before .before .before .before .before in
     find-stop (start .pre) _ (at-both .both .ensures) _ _ (at-distances .distances .ensures) (c .if1 .taken)
 
+add-k : tie.Need-add-k
+add-k c =
+    let start = c .before .before .before .before .before .before .before .before .before .before .before .before .before in
+    omega (arith, start .pre .ask .small, start .pre .ask .few)
+
+add-k-2 : tie.Need-add-k-2
+add-k-2 c =
+    let start = c .before .before .before .before .before .before .before .before .before .before .before .before .before in
+    omega (arith, start .pre .ask .small, start .pre .ask .few)
+
 add-distances : tie.Need-add-distances
 add-distances c =
-    let start = c .before .before .before .before .before .before .before .before .before .before .before .before .before .before in
-    omega (arith, start .pre .ask .small, start .pre .ask .few)
-
-add-distances-2 : tie.Need-add-distances-2
-add-distances-2 c =
-    let start = c .before .before .before .before .before .before .before .before .before .before .before .before .before .before in
-    omega (arith, start .pre .ask .small, start .pre .ask .few)
-
-add-distances-3 : tie.Need-add-distances-3
-add-distances-3 c =
     let start = c .before .before .before .before .before .before .before .before .before .before .before .before .before .before in
     omega (arith, start .pre .ask .small, start .pre .ask .few, start .pre .place)
 
@@ -78,9 +78,9 @@ find-spec =
     distances-requires
     same-length
     returns
+    add-k
+    add-k-2
     add-distances
-    add-distances-2
-    add-distances-3
     distances-requires-2
     same-length-2
     returns-2)
