@@ -8,11 +8,11 @@ use mathlib.Core.Logic.{_⊎_, inl, inr}
 use mathlib.Core.List.{List}
 use lib.ListN.{length, getD, replicate}
 use lib.Dec.{T, eqb, ltb, leb, eqb→eq, leb→le}
-use Rattle.graph.specs.Graph.{graph, Valid, IsLabel}
+use Rattle.graph.specs.Graph.{Graph, Valid, IsLabel, graph}
+use Rattle.graph.specs.Arrows.{arrows, EveryOf}
 use Rattle.graph.specs.Numbers.{many}
 use Rattle.graph.specs.Memory.{ClearAsk}
 use Rattle.graph.specs.Pivot.{draws}
-use Rattle.graph.specs.Search.{labels}
 use Rattle.graph.specs.Summary.{sharing, summary}
 use Rattle.graph.proofs.Certificate.{right-unique}
 use Rattle.graph.proofs.Memory.{zeroed-after}
@@ -42,8 +42,8 @@ use Rattle.decompose.proofs.Starting.{rings-begin}
 
 -- the machine before its first turn
 module _ {n : ℕ} {src tgt : List ℕ} {method order : ℕ} {c : Chooser} {list num wor num' wor' : List ℕ} {lab parts len len' : ℕ}
-    (a : Accepted n src tgt method order (c .kind) lab parts len len') (p : 0 < n) (st : Started n src tgt (c .kind) list num wor num' wor') (e : len ≡ length num) (ys : List Part) (l : n ≤ length ys) where
-  pub begun-running : Running n src tgt c ys num' wor' (aimed n (firstOne n method order))
+    (a : Accepted n src tgt method order (c .kind) lab parts len len') (p : 0 < n) (st : Started (graph n src tgt) (c .kind) list num wor num' wor') (e : len ≡ length num) (ys : List Part) (l : n ≤ length ys) where
+  pub begun-running : Running (graph n src tgt) c ys num' wor' (aimed n (firstOne n method order))
   unfolding goes aim
   begun-running =
       record {
@@ -57,28 +57,38 @@ module _ {n : ℕ} {src tgt : List ℕ} {method order : ℕ} {c : Chooser} {list
         early = λ q. refl;
         zeros = λ j h. absurd (not-suc-le-zero h);
         flags = λ i h. absurd (not-suc-le-zero h);
-        whole = elim (ℕ-discrete method 0) as (λ _. (method ≡ 0) ⊎ Slicing n (base n src) ys num' (aimed n (firstOne n method order))) [
+        whole = elim (ℕ-discrete method 0) as (λ _. (method ≡ 0) ⊎ Slicing n (base (graph n src tgt)) ys num' (aimed n (firstOne n method order))) [
           | yes q ↦ inl q
           | no q ↦ inr (record { one = omega (arith, a .known-method); alone = refl; whole = st .whole; made = refl })
         ];
-        waits = waits-same (st .waits) (firstOf n (base n src) ys num' (aimed n (firstOne n method order))) same;
+        waits = waits-same (st .waits) (firstOf n (base (graph n src tgt)) ys num' (aimed n (firstOne n method order))) same;
         blank = st .blank;
-        drawn = λ q. rings-begin n src tgt (base n src) num' (st .whole .colours);
+        drawn = λ q. rings-begin (graph n src tgt) (base (graph n src tgt)) num' (st .whole .colours);
         still = λ q. refl;
         most = omega arith;
         going = refl;
         reading = refl;
       }
     where
-      same : (i : ℕ) → i < 1 → firstOf n (base n src) ys num' (aimed n (firstOne n method order)) i ≡ head n (base n src) num' i
+      same : (i : ℕ) → i < 1 → firstOf n (base (graph n src tgt)) ys num' (aimed n (firstOne n method order)) i ≡ head n (base (graph n src tgt)) num' i
       same i h = let x : i ≡ 0 = omega arith in rw x refl
 
 -- the drive may begin
-pub begun-drive : {n : ℕ} {src tgt : List ℕ} {method order : ℕ} {c : Chooser} {list : List ℕ} {lab : ℕ} {num wor num' wor' : List ℕ} {s : Machine} (ys : List Part)
-    → Begun n src tgt method order c list (length ys) lab num wor num' wor' s → DriveAsk n src tgt c ys num' wor' s
-begun-drive ys (refused h) = record { ready = λ g. absurd (not-suc-le-zero g) }
-begun-drive ys (nothing z e) = record { ready = λ g. absurd (not-suc-le-zero g) }
-begun-drive ys (begun z p st) = let a = accepted z in record { ready = λ g. begun-running a p st refl ys (a .waiting) }
+begun-asks : {n : ℕ} {src tgt : List ℕ} {method order : ℕ} {c : Chooser} {list : List ℕ} {lab : ℕ} {num wor num' wor' : List ℕ} {s : Machine} (ys : List Part)
+    → Begun n src tgt method order c list (length ys) lab num wor num' wor' s → DriveAsk (graph n src tgt) c ys num' wor' s
+begun-asks ys (refused h) = record { ready = λ g. absurd (not-suc-le-zero g) }
+begun-asks ys (nothing z e) = record { ready = λ g. absurd (not-suc-le-zero g) }
+begun-asks ys (begun z p st) = let a = accepted z in record { ready = λ g. begun-running a p st refl ys (a .waiting) }
+
+module _ {n : ℕ} {src tgt : List ℕ} {method order : ℕ} {c x c₁ : Chooser} {list : List ℕ} {lab : ℕ} {num wor num₁ wor₁ : List ℕ} {s : Machine} {ys : List Part}
+    (q : (x ≡ c) × (c₁ ≡ c)) (b : Begun n src tgt method order x list (length ys) lab num wor num₁ wor₁ s) where
+  pub begun-drive : DriveAsk (graph n src tgt) c₁ ys num₁ wor₁ s
+  begun-drive = subst (λ (y : Chooser). DriveAsk (graph n src tgt) y ys num₁ wor₁ s) (q .0 ∙ sym (q .1)) (begun-asks ys b)
+
+  -- what it promises of every table with so many edges, of this one
+  pub begun-driven : {c₂ : Chooser} {ys₂ : List Part} {num₂ wor₂ : List ℕ} {e : Machine}
+      → EveryOf n (length src) (λ g. DriveAsk g c₁ ys num₁ wor₁ s → Driven g c₁ ys num₁ wor₁ s c₂ ys₂ num₂ wor₂ e) → Driven (graph n src tgt) c₁ ys num₁ wor₁ s c₂ ys₂ num₂ wor₂ e
+  begun-driven d = d (arrows (graph n src tgt)) begun-drive
 
 -- the lengths of lent memory stay, and so does the refusal
 pub record Lengths (num wor num' wor' : List ℕ) (s e : Machine) : Type 0 where
@@ -86,7 +96,7 @@ pub record Lengths (num wor num' wor' : List ℕ) (s e : Machine) : Type 0 where
   pub words : length wor' ≡ length wor
   pub refusal : e .refusal ≡ s .refusal
 
-ran-lengths : {n : ℕ} {src tgt : List ℕ} {c c' : Chooser} {ys ys' : List Part} {num wor num' wor' : List ℕ} {s e : Machine} → Ran n src tgt c ys num wor s c' ys' num' wor' e → Lengths num wor num' wor' s e
+ran-lengths : {g : Graph} {c c' : Chooser} {ys ys' : List Part} {num wor num' wor' : List ℕ} {s e : Machine} → Ran g c ys num wor s c' ys' num' wor' e → Lengths num wor num' wor' s e
 ran-lengths (idle z) = record { numbers = refl; words = refl; refusal = refl }
 ran-lengths (ran p r w) = record { numbers = w .numbers-long; words = w .words-long; refusal = w .refusal }
 
@@ -113,42 +123,42 @@ ended-ask a x =
     record { room = λ z. let r = a .room (sym (x .refusal) ∙ z) in record { label = r .label; memory = clear-same (r .memory) (x .numbers) (x .words) } }
 
 pub driven-finish : {n : ℕ} {src tgt : List ℕ} {method order : ℕ} {c : Chooser} {list lab : List ℕ} {num wor num₁ wor₁ num₂ wor₂ : List ℕ} {s e : Machine} {c₁ c₂ : Chooser} {ys ys₁ : List Part}
-    → Begun n src tgt method order c list (length ys) (length lab) num wor num₁ wor₁ s → Driven n src tgt c₁ ys num₁ wor₁ s c₂ ys₁ num₂ wor₂ e → FinishAsk n (length src) lab num₂ wor₂ e
+    → Begun n src tgt method order c list (length ys) (length lab) num wor num₁ wor₁ s → Driven (graph n src tgt) c₁ ys num₁ wor₁ s c₂ ys₁ num₂ wor₂ e → FinishAsk n (length src) lab num₂ wor₂ e
 driven-finish b d = ended-ask (accepting b) (ran-lengths (d .run))
 
 -- nothing waits: every colour is a label
-module _ {n : ℕ} {src tgt : List ℕ} {c : Chooser} {ys : List Part} {num wor : List ℕ} {e : Machine} (r : Running n src tgt c ys num wor e) (done : e .go ≡ 0) (valid : Valid (graph n src tgt)) where
-  stops : (n ≤ e .cleared) × (e .pending ≤ e .given) × (e .count ≡ 0)
-  stops = stopped n e (sym (r .going) ∙ done)
+module _ {g : Graph} {c : Chooser} {ys : List Part} {num wor : List ℕ} {e : Machine} (r : Running g c ys num wor e) (done : e .go ≡ 0) (valid : Valid g) where
+  stops : (g .n ≤ e .cleared) × (e .pending ≤ e .given) × (e .count ≡ 0)
+  stops = stopped (g .n) e (sym (r .going) ∙ done)
 
-  labelled-all : (v : ℕ) → v < n → col (base n src) num v < n
-  labelled-all v l = elim (decLt (col (base n src) num v) n) as (λ _. col (base n src) num v < n) [
+  labelled-all : (v : ℕ) → v < g .n → col (base g) num v < g .n
+  labelled-all v l = elim (decLt (col (base g) num v) (g .n)) as (λ _. col (base g) num v < g .n) [
     | yes q ↦ q
     | no q ↦
         let (i, h, m) = r .waits .stage .placed .all v l in
-        let t : own n (base n src) num i ≡ col (base n src) num v = ap (col (base n src) num) m in
+        let t : own (g .n) (base g) num i ≡ col (base g) num v = ap (col (base g) num) m in
         let (j, k, x) = r .waits .all i h (omega (arith, t)) in
         absurd (omega (arith, k, stops .1, stops .2))
   ]
 
-  ended-label : (v : ℕ) → v < n → IsLabel (graph n src tgt) v (col (base n src) num v)
+  ended-label : (v : ℕ) → v < g .n → IsLabel g v (col (base g) num v)
   ended-label v l = r .waits .stage .owned .right v l (labelled-all v l)
 
-  ended-none : (j : ℕ) → j < n → getD ys j none ≡ none
+  ended-none : (j : ℕ) → j < g .n → getD ys j none ≡ none
   ended-none j h = r .zeros j (omega (arith, stops .0)) (λ i q. absurd (omega (arith, stops .2)))
 
-  ended-most : e .made ≤ 2 * n
-  ended-most = omega (arith, r .most, many-le (λ v. ltb (col (base n src) num v) n) n)
+  ended-most : e .made ≤ 2 * g .n
+  ended-most = omega (arith, r .most, many-le (λ v. ltb (col (base g) num v) (g .n)) (g .n))
 
-  module _ (lab : List ℕ) (long : length lab ≡ n) (are : (v : ℕ) → v < n → getD lab v 0 ≡ col (base n src) num v) where
+  module _ (lab : List ℕ) (long : length lab ≡ g .n) (are : (v : ℕ) → v < g .n → getD lab v 0 ≡ col (base g) num v) where
     -- a label that two share is a ring
-    shared : (l : ℕ) → l < n → T (leb 2 (sharing lab l)) → T (ring n (col (base n src) num) l)
+    shared : (l : ℕ) → l < g .n → T (leb 2 (sharing lab l)) → T (ring (g .n) (col (base g) num) l)
     unfolding sharing
     shared l h t =
         let two : 2 ≤ many (λ v. eqb (getD lab v 0) l) (length lab) = leb→le 2 (sharing lab l) t in
         let (u, lu, tu, eu) = many-place (λ v. eqb (getD lab v 0) l) (length lab) 0 (omega arith) in
         let (v, lv, tv, ev) = many-place (λ v. eqb (getD lab v 0) l) (length lab) 1 (omega arith) in
-        elim (ℕ-discrete u l) as (λ _. T (ring n (col (base n src) num) l)) [
+        elim (ℕ-discrete u l) as (λ _. T (ring (g .n) (col (base g) num) l)) [
           | yes q ↦ of v (omega arith) (tv) (λ x. differ u v eu ev (q ∙ sym x))
           | no q ↦ of u (omega arith) tu q
         ]
@@ -156,15 +166,15 @@ module _ {n : ℕ} {src tgt : List ℕ} {c : Chooser} {ys : List Part} {num wor 
         differ : (u v : ℕ) → many (λ v. eqb (getD lab v 0) l) u ≡ 0 → many (λ v. eqb (getD lab v 0) l) v ≡ 1 → u ≡ v → ⊥
         differ u v a b q = let x = ap (many (λ v. eqb (getD lab v 0) l)) q in omega arith
 
-        of : (v : ℕ) → v < n → T (eqb (getD lab v 0) l) → (v ≡ l → ⊥) → T (ring n (col (base n src) num) l)
+        of : (v : ℕ) → v < g .n → T (eqb (getD lab v 0) l) → (v ≡ l → ⊥) → T (ring (g .n) (col (base g) num) l)
         of v lv t d =
-            let e₁ : col (base n src) num v ≡ l = sym (are v lv) ∙ eqb→eq (getD lab v 0) l t in
+            let e₁ : col (base g) num v ≡ l = sym (are v lv) ∙ eqb→eq (getD lab v 0) l t in
             let s = rw e₁ at (ended-label v lv .member) in
-            is-ring n (col (base n src) num) l v (sym (r .waits .stage .owned .whole v l lv s) ∙ e₁) lv d e₁
+            is-ring (g .n) (col (base g) num) l v (sym (r .waits .stage .owned .whole v l lv s) ∙ e₁) lv d e₁
 
-    ended-rings : summary n lab .rings ≤ rings (graph n src tgt) (base n src) num
+    ended-rings : summary (g .n) lab .rings ≤ rings g (base g) num
     unfolding summary
-    ended-rings = many-mono (λ l. leb 2 (sharing lab l)) (ring n (col (base n src) num)) n shared
+    ended-rings = many-mono (λ l. leb 2 (sharing lab l)) (ring (g .n) (col (base g) num)) (g .n) shared
 
 -- refused
 refused-met : {n : ℕ} {src tgt : List ℕ} {method order : ℕ} {c : Chooser} {list lab : List ℕ} {num wor : List ℕ} {ys : List Part} {lab₃ num₃ wor₃ : List ℕ} {a : Answer} (k : ℕ)
@@ -198,14 +208,14 @@ nothing-met {n} {lab₃ = lab₃} q e (doing x cp z) =
 
 -- the machine ran
 ran-met : {n : ℕ} {src tgt : List ℕ} {method order : ℕ} {c : Chooser} {list lab : List ℕ} {num wor num₁ wor₁ num₂ wor₂ : List ℕ} {e : Machine} {c₂ : Chooser} {ys ys₂ : List Part} {lab₃ num₃ wor₃ : List ℕ} {a : Answer}
-    → refusalOf n src tgt method order (c .kind) (length lab) (length ys) (length num) (length wor) ≡ 0 → Started n src tgt (c .kind) list num wor num₁ wor₁
-    → Running n src tgt c₂ ys₂ num₂ wor₂ e → Went n (length src) c ys num₁ wor₁ (aimed n (firstOne n method order)) c₂ ys₂ num₂ wor₂ e → e .go ≡ 0
+    → refusalOf n src tgt method order (c .kind) (length lab) (length ys) (length num) (length wor) ≡ 0 → Started (graph n src tgt) (c .kind) list num wor num₁ wor₁
+    → Running (graph n src tgt) c₂ ys₂ num₂ wor₂ e → Went n (length src) c ys num₁ wor₁ (aimed n (firstOne n method order)) c₂ ys₂ num₂ wor₂ e → e .go ≡ 0
     → Ended n (length src) lab num₂ wor₂ e lab₃ num₃ wor₃ a → Promise (call n src tgt method order c list ys lab num wor) (after c₂ ys₂ lab₃ num₃ wor₃) a
 ran-met q st r w d (refusing x) = absurd (x (w .refusal))
-ran-met {n} {src} {c = c} {num₂ = num₂} {e = e} {lab₃ = lab₃} q st r w d (doing x cp z) =
+ran-met {n} {src} {tgt} {c = c} {num₂ = num₂} {e = e} {lab₃ = lab₃} q st r w d (doing x cp z) =
     let k = accepted q in
     let all-draws : e .made - 0 ≡ e .made = omega arith in
-    let copied : (v : ℕ) → v < n → getD lab₃ v 0 ≡ col (base n src) num₂ v = λ v l. cp .each v (omega (arith, k .label)) in
+    let copied : (v : ℕ) → v < n → getD lab₃ v 0 ≡ col (base (graph n src tgt)) num₂ v = λ v l. cp .each v (omega (arith, k .label)) in
     record {
       refusal = sym q;
       gives = record {
@@ -222,7 +232,7 @@ ran-met {n} {src} {c = c} {num₂ = num₂} {e = e} {lab₃ = lab₃} q st r w d
     }
 
 met : {n : ℕ} {src tgt : List ℕ} {method order : ℕ} {c : Chooser} {list lab : List ℕ} {num wor num₁ wor₁ num₂ wor₂ : List ℕ} {s e : Machine} {c₂ : Chooser} {ys ys₂ : List Part} {lab₃ num₃ wor₃ : List ℕ} {a : Answer}
-    → Begun n src tgt method order c list (length ys) (length lab) num wor num₁ wor₁ s → Ran n src tgt c ys num₁ wor₁ s c₂ ys₂ num₂ wor₂ e → e .go ≡ 0
+    → Begun n src tgt method order c list (length ys) (length lab) num wor num₁ wor₁ s → Ran (graph n src tgt) c ys num₁ wor₁ s c₂ ys₂ num₂ wor₂ e → e .go ≡ 0
     → Ended n (length src) lab num₂ wor₂ e lab₃ num₃ wor₃ a → Promise (call n src tgt method order c list ys lab num wor) (after c₂ ys₂ lab₃ num₃ wor₃) a
 met {n} {src} {tgt} {method} {order} {c} {lab = lab} {num = num} {wor = wor} {ys = ys} (refused h) (idle z) d f = refused-met (refusalOf n src tgt method order (c .kind) (length lab) (length ys) (length num) (length wor)) refl h f
 met (refused h) (ran p r w) d f = absurd (not-suc-le-zero p)
@@ -233,28 +243,32 @@ met (begun q p st) (ran x r w) d f = ran-met q st r w d f
 
 -- the calls of the decomposer, one after the other
 pub promised : {n : ℕ} {src tgt : List ℕ} {method order : ℕ} {c x c₁ c₂ : Chooser} {list lab : List ℕ} {num wor num₁ wor₁ num₂ wor₂ : List ℕ} {s e : Machine} {ys ys₂ : List Part} {lab₃ num₃ wor₃ : List ℕ} {a : Answer}
-    → (x ≡ c) × (c₁ ≡ c) → Begun n src tgt method order x list (length ys) (length lab) num wor num₁ wor₁ s → Driven n src tgt c₁ ys num₁ wor₁ s c₂ ys₂ num₂ wor₂ e
+    → (x ≡ c) × (c₁ ≡ c) → Begun n src tgt method order x list (length ys) (length lab) num wor num₁ wor₁ s → Driven (graph n src tgt) c₁ ys num₁ wor₁ s c₂ ys₂ num₂ wor₂ e
     → Ended n (length src) lab num₂ wor₂ e lab₃ num₃ wor₃ a → Promise (call n src tgt method order c list ys lab num wor) (after c₂ ys₂ lab₃ num₃ wor₃) a
 promised {n} {src} {tgt} {method} {order} {c} {x} {c₁} {c₂} {list} {lab} {num} {wor} {num₁} {wor₁} {num₂} {wor₂} {s} {e} {ys} {ys₂} q b d f =
     met (subst (λ (y : Chooser). Begun n src tgt method order y list (length ys) (length lab) num wor num₁ wor₁ s) (q .0) b)
-    (subst (λ (y : Chooser). Ran n src tgt y ys num₁ wor₁ s c₂ ys₂ num₂ wor₂ e) (q .1) (d .run)) (d .done) f
+    (subst (λ (y : Chooser). Ran (graph n src tgt) y ys num₁ wor₁ s c₂ ys₂ num₂ wor₂ e) (q .1) (d .run)) (d .done) f
 
 -- the same for a list and a chooser of one's own
-pub plain-drive : {n : ℕ} {src tgt : List ℕ} {lab : ℕ} {num wor num' wor' : List ℕ} {s : Machine}
-    → PlainBegun n src tgt lab num wor num' wor' s → DriveAsk n src tgt still (replicate 512 none) num' wor' s
-plain-drive b = begun-drive (replicate 512 none) b
+module _ {n : ℕ} {src tgt : List ℕ} {lab : ℕ} {num wor num₁ wor₁ : List ℕ} {s : Machine} {ys : List Part} (q : ys ≡ replicate 512 none) (b : PlainBegun n src tgt lab num wor num₁ wor₁ s) where
+  pub plain-drive : DriveAsk (graph n src tgt) still ys num₁ wor₁ s
+  plain-drive = subst (λ (l : List Part). DriveAsk (graph n src tgt) still l num₁ wor₁ s) (sym q) (begun-asks (replicate 512 none) b)
+
+  pub plain-driven : {c₂ : Chooser} {ys₂ : List Part} {num₂ wor₂ : List ℕ} {e : Machine}
+      → EveryOf n (length src) (λ g. DriveAsk g still ys num₁ wor₁ s → Driven g still ys num₁ wor₁ s c₂ ys₂ num₂ wor₂ e) → Driven (graph n src tgt) still ys num₁ wor₁ s c₂ ys₂ num₂ wor₂ e
+  plain-driven d = d (arrows (graph n src tgt)) plain-drive
 
 pub plain-finish : {n : ℕ} {src tgt lab : List ℕ} {num wor num₁ wor₁ num₂ wor₂ : List ℕ} {s e : Machine} {c₂ : Chooser} {ys ys₁ : List Part}
-    → PlainBegun n src tgt (length lab) num wor num₁ wor₁ s → Driven n src tgt still ys num₁ wor₁ s c₂ ys₁ num₂ wor₂ e → FinishAsk n (length src) lab num₂ wor₂ e
+    → PlainBegun n src tgt (length lab) num wor num₁ wor₁ s → Driven (graph n src tgt) still ys num₁ wor₁ s c₂ ys₁ num₂ wor₂ e → FinishAsk n (length src) lab num₂ wor₂ e
 plain-finish {n} {src} {tgt} {lab} {num} {wor} {num₁} {wor₁} {num₂} {wor₂} {s} {e} {c₂} {ys} {ys₁} b d =
     ended-ask (accepting b) (ran-lengths (d .run))
 
 pub plainly : {n : ℕ} {src tgt lab : List ℕ} {num wor num₁ wor₁ num₂ wor₂ : List ℕ} {s e : Machine} {c₂ : Chooser} {ys ys₂ : List Part} {lab₃ num₃ wor₃ : List ℕ} {a : Answer}
-    → ys ≡ replicate 512 none → PlainBegun n src tgt (length lab) num wor num₁ wor₁ s → Driven n src tgt still ys num₁ wor₁ s c₂ ys₂ num₂ wor₂ e
+    → ys ≡ replicate 512 none → PlainBegun n src tgt (length lab) num wor num₁ wor₁ s → Driven (graph n src tgt) still ys num₁ wor₁ s c₂ ys₂ num₂ wor₂ e
     → Ended n (length src) lab num₂ wor₂ e lab₃ num₃ wor₃ a → Plainly n src tgt lab num wor lab₃ num₃ wor₃ a
 plainly {n} {src} {tgt} {lab} {num} {wor} {num₁} {wor₁} {num₂} {wor₂} {s} {e} {c₂} {ys} {ys₂} q b d f =
     record {
       chooser = c₂;
       waiting = ys₂;
-      promise = promised {c = still} {x = still} {c₁ = still} {ys = replicate 512 none} (refl, refl) b (subst (λ (l : List Part). Driven n src tgt still l num₁ wor₁ s c₂ ys₂ num₂ wor₂ e) q d) f;
+      promise = promised {c = still} {x = still} {c₁ = still} {ys = replicate 512 none} (refl, refl) b (subst (λ (l : List Part). Driven (graph n src tgt) still l num₁ wor₁ s c₂ ys₂ num₂ wor₂ e) q d) f;
     }

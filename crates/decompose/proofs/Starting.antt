@@ -8,7 +8,7 @@ use mathlib.Core.Bool.{Bool, false}
 use mathlib.Core.List.{List}
 use lib.ListN.{length, getD, set, length-set}
 use lib.Seq.{getD-set-same, getD-set-other}
-use Rattle.graph.specs.Graph.{graph}
+use Rattle.graph.specs.Graph.{Graph, rev, edges}
 use Rattle.graph.specs.Limits.{wordsNeeded, numbersNeeded}
 use Rattle.graph.specs.Memory.{Zeroed}
 use Rattle.graph.specs.Numbers.{least, many}
@@ -16,7 +16,8 @@ use Rattle.graph.proofs.Chains.{same-low}
 use Rattle.graph.proofs.Counts.{many-mono}
 use Rattle.sets.proofs.Store.{zero-bit}
 use Rattle.index.specs.Build.{Both}
-use Rattle.index.proofs.Moved.{indexed-kept}
+use Rattle.index.proofs.Counts.{start-all}
+use Rattle.index.proofs.Moved.{held-kept}
 use Rattle.regions.specs.Regions.{Filled}
 use Rattle.paint.specs.Colours.{col}
 use Rattle.pivot.specs.Order.{Arranged, Ordered, order}
@@ -73,17 +74,17 @@ blank-zeroed {n} {ws} {ws'} l z =
       none = λ v h. zero-bit ws' v (z .front (v / 64) (omega arith));
     }
 
-module _ (n : ℕ) (src tgt L : List ℕ) {w w₁ w₂ w₃ w₄ w₅ w₆ ws ws' : List ℕ} (ask : StartAsk n src tgt w ws)
-    (both : Both src tgt n w w₁) (placed : Ordered n L (base n src) w₁ w₂)
-    (p : Put (base n src) n (λ j. n) w₂ w₃) (q : Put (base n src + 2 * n) n (λ j. j + 1) w₃ w₄) (r : Put (base n src + 3 * n) (3 * n + 2) (λ j. n) w₄ w₅) (s : Put (base n src + 8 * n + 2) 1 (λ j. 0) w₅ w₆)
-    (z : Zeroed (wordsNeeded n) ws ws') where
+module _ (g : Graph) (L : List ℕ) {w w₁ w₂ w₃ w₄ w₅ w₆ ws ws' : List ℕ} (ask : StartAsk g w ws)
+    (both : Both g w w₁) (placed : Ordered (g .n) L (base g) w₁ w₂)
+    (p : Put (base g) (g .n) (λ j. g .n) w₂ w₃) (q : Put (base g + 2 * g .n) (g .n) (λ j. j + 1) w₃ w₄) (r : Put (base g + 3 * g .n) (3 * g .n + 2) (λ j. g .n) w₄ w₅) (s : Put (base g + 8 * g .n + 2) 1 (λ j. 0) w₅ w₆)
+    (z : Zeroed (wordsNeeded (g .n)) ws ws') where
   abbrev b : ℕ
-  b = base n src
+  b = base g
 
-  some : 0 < n
+  some : 0 < g .n
   some = ask .some
 
-  colour : (v : ℕ) → v < n → col b w₆ v ≡ n
+  colour : (v : ℕ) → v < g .n → col b w₆ v ≡ g .n
   colour v l = s .low (b + v) (omega arith) ∙ r .low (b + v) (omega arith) ∙ q .low (b + v) (omega arith) ∙ p .here v l
 
   low : (j : ℕ) → j < b → getD w₆ j 0 ≡ getD w₁ j 0
@@ -92,44 +93,44 @@ module _ (n : ℕ) (src tgt L : List ℕ) {w w₁ w₂ w₃ w₄ w₅ w₆ ws ws
   long : length w₆ ≡ length w
   long = s .long ∙ r .long ∙ q .long ∙ p .long ∙ placed .beside .long ∙ both .long
 
-  ordered : (i : ℕ) → ord n b w₆ i ≡ order b n w₂ i
-  ordered i = s .high (b + 9 * n + 2 + i) (omega (arith, some)) ∙ r .high (b + 9 * n + 2 + i) (omega arith) ∙ q .high (b + 9 * n + 2 + i) (omega arith) ∙ p .high (b + 9 * n + 2 + i) (omega arith)
+  ordered : (i : ℕ) → ord (g .n) b w₆ i ≡ order b (g .n) w₂ i
+  ordered i = s .high (b + 9 * g .n + 2 + i) (omega (arith, some)) ∙ r .high (b + 9 * g .n + 2 + i) (omega arith) ∙ q .high (b + 9 * g .n + 2 + i) (omega arith) ∙ p .high (b + 9 * g .n + 2 + i) (omega arith)
 
-  arranged : Arranged n L (ord n b w₆)
+  arranged : Arranged (g .n) L (ord (g .n) b w₆)
   arranged = arranged-same ordered (placed .order)
 
-  beyond : (j : ℕ) → numbersNeeded n (length src) ≤ j → getD w₆ j 0 ≡ getD w j 0
+  beyond : (j : ℕ) → numbersNeeded (g .n) (edges g) ≤ j → getD w₆ j 0 ≡ getD w j 0
   beyond j h =
       s .high j (omega arith) ∙ r .high j (omega arith) ∙ q .high j (omega arith) ∙ p .high j (omega arith)
-      ∙ placed .beside .high j (omega arith) ∙ both .rest j (omega arith)
+      ∙ placed .beside .high j (omega arith) ∙ both .rest j (omega (arith, start-all (g .counted) (g .tgt) (edges g) (g .n)))
 
   -- every place has the one colour
-  place : (i : ℕ) → i < n → own n b w₆ i ≡ n
-  place i l = colour (ord n b w₆ i) (arranged .low i l)
+  place : (i : ℕ) → i < g .n → own (g .n) b w₆ i ≡ g .n
+  place i l = colour (ord (g .n) b w₆ i) (arranged .low i l)
 
-  follow : (i : ℕ) → i < n → nxt n b w₆ i ≡ i + 1
-  follow i l = s .low (b + 2 * n + i) (omega arith) ∙ r .low (b + 2 * n + i) (omega arith) ∙ q .here i l
+  follow : (i : ℕ) → i < g .n → nxt (g .n) b w₆ i ≡ i + 1
+  follow i l = s .low (b + 2 * g .n + i) (omega arith) ∙ r .low (b + 2 * g .n + i) (omega arith) ∙ q .here i l
 
-  last : (c : ℕ) → n ≤ c → c < 4 * n + 2 → lst n b w₆ c ≡ n
+  last : (c : ℕ) → g .n ≤ c → c < 4 * g .n + 2 → lst (g .n) b w₆ c ≡ g .n
   last c l h =
-      let e : b + 2 * n + c ≡ b + 3 * n + (c - n) = omega arith in
-      s .low (b + 2 * n + c) (omega arith) ∙ ap (λ (j : ℕ). getD w₅ j 0) e ∙ r .here (c - n) (omega arith)
+      let e : b + 2 * g .n + c ≡ b + 3 * g .n + (c - g .n) = omega arith in
+      s .low (b + 2 * g .n + c) (omega arith) ∙ ap (λ (j : ℕ). getD w₅ j 0) e ∙ r .here (c - g .n) (omega arith)
 
-  zeroth : head n b w₆ 0 ≡ 0
+  zeroth : head (g .n) b w₆ 0 ≡ 0
   zeroth = s .here 0 (omega arith)
 
-  tables : Tables (graph n src tgt) b w₆
+  tables : Tables g b w₆
   tables =
       record {
         valid = ask .valid;
         few = ask .few;
         small = ask .small;
         below = omega arith;
-        fwd = indexed-kept src n 0 w₁ w₆ (ask .valid .from-low) (λ j h k. low j (omega arith)) (both .forward);
-        bwd = indexed-kept tgt n (n + 1 + length src) w₁ w₆ (λ e h. ask .valid .to-low e (omega (arith, ask .valid .same))) (λ j h k. low j (omega (arith, ask .valid .same))) (both .reverse);
+        fwd = held-kept g 0 w₁ w₆ (λ j h k. low j (omega arith)) (both .forward);
+        bwd = held-kept (rev g) (g .n + 1 + edges g) w₁ w₆ (λ j h k. low j (omega arith)) (both .reverse);
       }
 
-  stage : Stage (graph n src tgt) b (n + 1) w₆
+  stage : Stage g b (g .n + 1) w₆
   stage =
       record {
         tables = tables;
@@ -143,7 +144,7 @@ module _ (n : ℕ) (src tgt L : List ℕ) {w w₁ w₂ w₃ w₄ w₅ w₆ ws ws
         long = omega (arith, ask .memory .numbers, long);
       }
 
-  pub started : (kind : ℕ) (list : List ℕ) → L ≡ listOf kind list → Started n src tgt kind list w ws w₆ ws'
+  pub started : (kind : ℕ) (list : List ℕ) → L ≡ listOf kind list → Started g kind list w ws w₆ ws'
   started kind list e =
       record {
         waits = record {
@@ -156,7 +157,7 @@ module _ (n : ℕ) (src tgt L : List ℕ) {w w₁ w₂ w₃ w₄ w₅ w₆ ws ws
           });
           none = λ c l h. omega (arith, last c (omega arith) h);
           first = λ i l. let x : i ≡ 0 = omega arith in rw (x, zeroth) (record { low = some; part = omega (arith, place 0 some); none = λ u d f. absurd (not-suc-le-zero d) });
-          all = λ u l h. (0, omega arith, ap (own n b w₆) zeroth ∙ place 0 some ∙ sym (place u l));
+          all = λ u l h. (0, omega arith, ap (own (g .n) b w₆) zeroth ∙ place 0 some ∙ sym (place u l));
           one = λ i j l m x. omega arith;
         };
         whole = record { zero = zeroth; colours = colour; first = refl };
@@ -169,6 +170,6 @@ module _ (n : ℕ) (src tgt L : List ℕ) {w w₁ w₂ w₃ w₄ w₅ w₆ ws ws
       }
 
 -- at the beginning no component has its label
-pub rings-begin : (n : ℕ) (src tgt : List ℕ) (b : ℕ) (w : List ℕ) → ((v : ℕ) → v < n → col b w v ≡ n) → rings (graph n src tgt) b w ≤ 0
-rings-begin n src tgt b w h =
-    omega (arith, many-mono (ring n (col b w)) (λ v. false) n (λ i l t. absurd (omega (arith, ring-is n (col b w) i t .0, h i l))), none-pass n)
+pub rings-begin : (g : Graph) (b : ℕ) (w : List ℕ) → ((v : ℕ) → v < g .n → col b w v ≡ g .n) → rings g b w ≤ 0
+rings-begin g b w h =
+    omega (arith, many-mono (ring (g .n) (col b w)) (λ v. false) (g .n) (λ i l t. absurd (omega (arith, ring-is (g .n) (col b w) i t .0, h i l))), none-pass (g .n))

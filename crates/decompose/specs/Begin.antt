@@ -5,7 +5,7 @@ use mathlib.Core.Bool.{cond}
 use mathlib.Core.List.{List, []}
 use lib.ListN.{length, getD}
 use lib.Dec.{eqb}
-use Rattle.graph.specs.Graph.{graph, Valid}
+use Rattle.graph.specs.Graph.{Graph, Valid, edges, graph}
 use Rattle.graph.specs.Limits.{mostVertices, mostEdges, numbersNeeded, wordsNeeded, Enough}
 use Rattle.parts.specs.Chain.{head}
 use Rattle.parts.specs.State.{ord}
@@ -34,22 +34,22 @@ pub record NumberAsk (x len : ℕ) (w : List ℕ) : Type 0 where
 abbrev pub listOf : ℕ → List ℕ → List ℕ
 listOf kind list = cond (eqb kind 2) list []
 
-pub record StartAsk (n : ℕ) (src tgt : List ℕ) (num wor : List ℕ) : Type 0 where
-  pub valid : Valid (graph n src tgt)
-  pub small : n ≤ mostVertices
-  pub few : length src ≤ mostEdges
-  pub some : 0 < n
-  pub memory : Enough n (length src) (length num) (length wor)
+pub record StartAsk (g : Graph) (num wor : List ℕ) : Type 0 where
+  pub valid : Valid g
+  pub small : g .n ≤ mostVertices
+  pub few : edges g ≤ mostEdges
+  pub some : 0 < g .n
+  pub memory : Enough (g .n) (edges g) (length num) (length wor)
 
-pub record Started (n : ℕ) (src tgt : List ℕ) (kind : ℕ) (list num wor num' wor' : List ℕ) : Type 0 where
-  pub waits : Waits (graph n src tgt) (base n src) (n + 1) 1 (head n (base n src) num') num'
-  pub whole : Whole n (base n src) (head n (base n src) num' 0) (n + 1) num'
-  pub order : Arranged n (listOf kind list) (ord n (base n src) num')
-  pub blank : Blank n wor'
+pub record Started (g : Graph) (kind : ℕ) (list num wor num' wor' : List ℕ) : Type 0 where
+  pub waits : Waits g (base g) (g .n + 1) 1 (head (g .n) (base g) num') num'
+  pub whole : Whole (g .n) (base g) (head (g .n) (base g) num' 0) (g .n + 1) num'
+  pub order : Arranged (g .n) (listOf kind list) (ord (g .n) (base g) num')
+  pub blank : Blank (g .n) wor'
   pub long : length num' ≡ length num
-  pub beyond : (j : ℕ) → numbersNeeded n (length src) ≤ j → getD num' j 0 ≡ getD num j 0
+  pub beyond : (j : ℕ) → numbersNeeded (g .n) (edges g) ≤ j → getD num' j 0 ≡ getD num j 0
   pub words-long : length wor' ≡ length wor
-  pub words : (j : ℕ) → wordsNeeded n ≤ j → getD wor' j 0 ≡ getD wor j 0
+  pub words : (j : ℕ) → wordsNeeded (g .n) ≤ j → getD wor' j 0 ≡ getD wor j 0
 
 -- a machine with nothing to do
 abbrev pub idleWith : ℕ → Machine
@@ -97,4 +97,4 @@ pub data Begun (n : ℕ) (src tgt : List ℕ) (method order : ℕ) (c : Chooser)
       → Begun n src tgt method order c list waiting label num wor num wor (idleWith (refusalOf n src tgt method order (c .kind) label waiting (length num) (length wor)))
   nothing : refusalOf n src tgt method order (c .kind) label waiting (length num) (length wor) ≡ 0 → n ≡ 0 → Begun n src tgt method order c list waiting label num wor num wor (idleWith 0)
   begun : {num' wor' : List ℕ} → refusalOf n src tgt method order (c .kind) label waiting (length num) (length wor) ≡ 0 → 0 < n
-      → Started n src tgt (c .kind) list num wor num' wor' → Begun n src tgt method order c list waiting label num wor num' wor' (aimed n (firstOne n method order))
+      → Started (graph n src tgt) (c .kind) list num wor num' wor' → Begun n src tgt method order c list waiting label num wor num' wor' (aimed n (firstOne n method order))

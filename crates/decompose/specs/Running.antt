@@ -4,7 +4,7 @@ use mathlib.Core.Path.{_≡_}
 use mathlib.Core.List.{List}
 use mathlib.Core.Logic.{_⊎_}
 use lib.ListN.{length, getD}
-use Rattle.graph.specs.Graph.{graph}
+use Rattle.graph.specs.Graph.{Graph, edges}
 use Rattle.graph.specs.Limits.{mostVertices, mostEdges, numbersNeeded, wordsNeeded}
 use Rattle.graph.specs.Pivot.{draws}
 use Rattle.parts.specs.State.{labelled, rings}
@@ -24,28 +24,28 @@ pub record Slicing (n b : ℕ) (ys : List Part) (num : List ℕ) (s : Machine) :
   pub whole : Whole n b (firstOf n b ys num s 0) (s .top) num
   pub made : s .made ≡ 0
 
-pub record Running (n : ℕ) (src tgt : List ℕ) (c : Chooser) (ys : List Part) (num wor : List ℕ) (s : Machine) : Type 0 where
-  pub small : n ≤ mostVertices
-  pub few : length src ≤ mostEdges
-  pub records : n ≤ length ys
-  pub memory : numbersNeeded n (length src) ≤ length num
-  pub cleared : s .cleared ≤ n
-  pub oldest : s .oldest < n
-  pub pending : s .pending ≤ n
+pub record Running (g : Graph) (c : Chooser) (ys : List Part) (num wor : List ℕ) (s : Machine) : Type 0 where
+  pub small : g .n ≤ mostVertices
+  pub few : edges g ≤ mostEdges
+  pub records : g .n ≤ length ys
+  pub memory : numbersNeeded (g .n) (edges g) ≤ length num
+  pub cleared : s .cleared ≤ g .n
+  pub oldest : s .oldest < g .n
+  pub pending : s .pending ≤ g .n
   -- while records are cleared none waits; what is cleared and holds no record is zeros
-  pub early : s .cleared < n → s .count ≡ 0
-  pub zeros : (j : ℕ) → j < s .cleared → ((i : ℕ) → i < s .count → ring n s i ≡ j → ⊥) → getD ys j none ≡ none
+  pub early : s .cleared < g .n → s .count ≡ 0
+  pub zeros : (j : ℕ) → j < s .cleared → ((i : ℕ) → i < s .count → ring (g .n) s i ≡ j → ⊥) → getD ys j none ≡ none
   -- only the whole collection is ever to be sliced
-  pub flags : (i : ℕ) → i < s .count → getD ys (ring n s i) none .slicing ≡ s .slicing
-  pub whole : (s .slicing ≡ 0) ⊎ Slicing n (base n src) ys num s
-  pub waits : Waits (graph n src tgt) (base n src) (s .top) (waitingCount s) (firstOf n (base n src) ys num s) num
-  pub blank : Blank n wor
+  pub flags : (i : ℕ) → i < s .count → getD ys (ring (g .n) s i) none .slicing ≡ s .slicing
+  pub whole : (s .slicing ≡ 0) ⊎ Slicing (g .n) (base g) ys num s
+  pub waits : Waits g (base g) (s .top) (waitingCount s) (firstOf (g .n) (base g) ys num s) num
+  pub blank : Blank (g .n) wor
   -- kind 1 draws for each component of two or more, and at most twice for each vertex; the others never
-  pub drawn : c .kind ≡ 1 → rings (graph n src tgt) (base n src) num ≤ s .made
+  pub drawn : c .kind ≡ 1 → rings g (base g) num ≤ s .made
   pub still : (c .kind ≡ 1 → ⊥) → s .made ≡ 0
-  pub most : s .made ≤ labelled (graph n src tgt) (base n src) num + n
-  pub going : s .go ≡ goes n s
-  pub reading : s .read ≡ aim n s
+  pub most : s .made ≤ labelled g (base g) num + g .n
+  pub going : s .go ≡ goes (g .n) s
+  pub reading : s .read ≡ aim (g .n) s
 
 -- What stays through turns: records beyond n, memory beyond what is needed, the kind; the state is advanced by the draws made.
 pub record Went (n m : ℕ) (c : Chooser) (ys : List Part) (num wor : List ℕ) (s : Machine) (c' : Chooser) (ys' : List Part) (num' wor' : List ℕ) (e : Machine) : Type 0 where

@@ -1,12 +1,12 @@
 // The beginning of a decomposition: the tests, the indexes, the order, and the whole collection as the first part.
 ghost use mathlib.Core.Path.{_≡_};
 ghost use Prim.Native.Nat.{_+_, _≤_};
+ghost use Rattle.graph.specs.Graph.{graph};
 ghost use Rattle.graph.specs.Limits.{mostVertices};
 ghost use Rattle.pivot.specs.Order.{Ordered};
 ghost use Rattle.pivot.specs.Placing.{Room};
 ghost use Rattle.decompose.specs.Promise.{refusalOf};
 ghost use Rattle.decompose.specs.Begin.{Put, NumberAsk, listOf, StartAsk, Started, idleWith, firstOne, Begun};
-ghost use Rattle.machine.specs.Aim.{aimed as aimedAt};
 use graph::limits;
 use graph::table;
 use index::build;
@@ -89,8 +89,8 @@ fn start(
     numbers: &mut [u32],
     words: &mut [u64],
 )
-    requires { ⌜ StartAsk n (now sources) (now targets) (now numbers) (now words) ⌝ }
-    ensures { λ _. ⌜ Started n (now (sources .entry)) (now (targets .entry)) kind (now (list .entry)) (now (numbers .entry)) (now (words .entry)) (now (numbers .exit)) (now (words .exit)) ⌝ }
+    requires { ⌜ StartAsk (graph n (now sources) (now targets)) (now numbers) (now words) ⌝ }
+    ensures { λ _. ⌜ Started (graph n (now (sources .entry)) (now (targets .entry))) kind (now (list .entry)) (now (numbers .entry)) (now (words .entry)) (now (numbers .exit)) (now (words .exit)) ⌝ }
 {
     let b = 2 * (n + 1 + sources.len());
     build::both(sources, targets, n, numbers);

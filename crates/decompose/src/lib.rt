@@ -39,6 +39,6 @@ pub fn decompose(
         numbers,
         words,
     );
-    let e = turns::drive(n, sources, targets, chooser, waiting, numbers, words, s);
+    let e = turns::drive(n, sources.len(), chooser, waiting, numbers, words, s);
     finish::finish(n, sources.len(), label, numbers, words, e)
 }

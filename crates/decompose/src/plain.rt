@@ -2,8 +2,7 @@
 ghost use mathlib.Core.Path.{_≡_};
 ghost use lib.ListN.{replicate};
 ghost use Rattle.waiting.specs.Records.{none};
-ghost use Rattle.decompose.specs.Begin.{Begun};
-ghost use Rattle.decompose.specs.Plain.{still, PlainBegun, Plainly};
+ghost use Rattle.decompose.specs.Plain.{PlainBegun, Plainly};
 use crate::begin;
 use crate::finish;
 use crate::finish::Answer;
@@ -63,15 +62,6 @@ pub fn plain(
     let s = prepare(n, sources, targets, label.len(), numbers, words);
     let mut list = fresh();
     let mut chooser = Chooser { kind: 0, state: 0 };
-    let e = turns::drive(
-        n,
-        sources,
-        targets,
-        &mut chooser,
-        &mut list,
-        numbers,
-        words,
-        s,
-    );
+    let e = turns::drive(n, sources.len(), &mut chooser, &mut list, numbers, words, s);
     finish::finish(n, sources.len(), label, numbers, words, e)
 }

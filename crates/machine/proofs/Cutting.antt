@@ -11,9 +11,10 @@ use Rattle.graph.proofs.Counts.{many-le}
 use Rattle.paint.specs.Colours.{col}
 use Rattle.parts.specs.Divide.{DivideAsk, Handed, Division}
 use Rattle.slices.specs.Divide as Slices
+use Rattle.pivot.specs.declared.chooser.Chooser.{Chooser}
 use Rattle.waiting.specs.declared.Part.{Part}
 use Rattle.machine.specs.declared.Machine.{Machine}
-use Rattle.machine.specs.Machine.{Cut, parted, sliced, CutAsk, ClearAsk, olderThan}
+use Rattle.machine.specs.Machine.{base, Cut, parted, sliced, CutAsk, ClearAsk, PartAsk, olderThan}
 use Rattle.machine.specs.Aim.{wrapped}
 use Rattle.machine.proofs.Ring.{wrapped-low}
 
@@ -43,6 +44,10 @@ cut-sliced {g} {b} {kind} {h = h} {top = top} {w = w} {ws = ws} {w' = w'} {ws' =
 
     most : k ≤ v .pivots
     most = elim (ℕ-discrete kind 1) as (λ _. k ≤ v .pivots) [ yes q ↦ omega (arith, one q) | no q ↦ omega (arith, none q) ]
+
+-- the part of the record that is taken can be divided
+pub taken-part : {g : Graph} {p : Part} {c : Chooser} {s : Machine} {w ws : List ℕ} → PartAsk g p c s w ws → CutAsk g (base g) p (s .top) w ws
+taken-part a = a .ask .part (a .cleared) (a .given) .1
 
 -- what method 1 asks of the whole
 pub cut-whole : {g : Graph} {b : ℕ} {p : Part} {top : ℕ} {w ws : List ℕ} → CutAsk g b p top w ws → p .slicing ≡ 1 → Slices.WholeAsk g b top w ws

@@ -5,7 +5,7 @@ use mathlib.Core.Bool.{cond}
 use mathlib.Core.List.{List}
 use lib.ListN.{length}
 use lib.Dec.{eqb}
-use Rattle.graph.specs.Graph.{Graph, graph}
+use Rattle.graph.specs.Graph.{Graph, edges}
 use Rattle.graph.specs.Limits.{mostVertices, mostEdges}
 use Rattle.parts.specs.Chain.{head}
 use Rattle.waiting.specs.declared.Part.{Part}
@@ -18,8 +18,8 @@ use Rattle.parts.specs.Divide.{DivideAsk, Handed}
 use Rattle.machine.specs.Aim.{wrapped, aimed}
 
 -- where the indexes end: the regions of the parts start here
-abbrev pub base : ℕ → List ℕ → ℕ
-base n src = 2 * (n + 1 + length src)
+abbrev pub base : Graph → ℕ
+base g = 2 * (g .n + 1 + edges g)
 
 -- one record more is set to zeros
 abbrev pub clearing : Machine → Machine
@@ -116,28 +116,28 @@ pub record HandAsk (n m : ℕ) (num : List ℕ) (s : Machine) : Type 0 where
   pub count : s .count < n
   pub given : s .given < n
 
-pub record StepAsk (n : ℕ) (src tgt : List ℕ) (p : Part) (c : Chooser) (s : Machine) (num wor : List ℕ) : Type 0 where
-  pub small : n ≤ mostVertices
-  pub few : length src ≤ mostEdges
-  pub fits : base n src + 10 * n + 2 ≤ length num
-  pub cleared : s .cleared ≤ n
-  pub oldest : s .oldest < n
-  pub count : s .count ≤ n
-  pub pending : s .pending ≤ n
-  pub room : s .given < s .pending → s .count < n
-  pub made : s .made ≤ 2 * n
-  pub part : n ≤ s .cleared → s .pending ≤ s .given → (0 < s .count) × CutAsk (graph n src tgt) (base n src) p (s .top) num wor
+pub record StepAsk (g : Graph) (p : Part) (c : Chooser) (s : Machine) (num wor : List ℕ) : Type 0 where
+  pub small : g .n ≤ mostVertices
+  pub few : edges g ≤ mostEdges
+  pub fits : base g + 10 * g .n + 2 ≤ length num
+  pub cleared : s .cleared ≤ g .n
+  pub oldest : s .oldest < g .n
+  pub count : s .count ≤ g .n
+  pub pending : s .pending ≤ g .n
+  pub room : s .given < s .pending → s .count < g .n
+  pub made : s .made ≤ 2 * g .n
+  pub part : g .n ≤ s .cleared → s .pending ≤ s .given → (0 < s .count) × CutAsk g (base g) p (s .top) num wor
 
 -- a record is cleared, or a pending part handed out, or the part of the record divided
-pub data Stepped (n : ℕ) (src tgt : List ℕ) (p : Part) (c : Chooser) (s : Machine) (num wor : List ℕ) : List ℕ → List ℕ → Machine → Type 0 where
-  clears : s .cleared < n → Stepped n src tgt p c s num wor num wor (aimed n (clearing s))
-  hands : n ≤ s .cleared → s .given < s .pending → Stepped n src tgt p c s num wor num wor (aimed n (handing n (base n src) num s))
-  divides : {num' wor' : List ℕ} {k top children : ℕ} → n ≤ s .cleared → s .pending ≤ s .given
-      → Cut (graph n src tgt) (base n src) (c .kind) (p .first) (s .top) (p .slicing) num wor num' wor' k top children
-      → Stepped n src tgt p c s num wor num' wor' (aimed n (dividing n s k top children))
+pub data Stepped (g : Graph) (p : Part) (c : Chooser) (s : Machine) (num wor : List ℕ) : List ℕ → List ℕ → Machine → Type 0 where
+  clears : s .cleared < g .n → Stepped g p c s num wor num wor (aimed (g .n) (clearing s))
+  hands : g .n ≤ s .cleared → s .given < s .pending → Stepped g p c s num wor num wor (aimed (g .n) (handing (g .n) (base g) num s))
+  divides : {num' wor' : List ℕ} {k top children : ℕ} → g .n ≤ s .cleared → s .pending ≤ s .given
+      → Cut g (base g) (c .kind) (p .first) (s .top) (p .slicing) num wor num' wor' k top children
+      → Stepped g p c s num wor num' wor' (aimed (g .n) (dividing (g .n) s k top children))
 
 -- the record is to be divided
-pub record PartAsk (n : ℕ) (src tgt : List ℕ) (p : Part) (c : Chooser) (s : Machine) (num wor : List ℕ) : Type 0 where
-  pub ask : StepAsk n src tgt p c s num wor
-  pub cleared : n ≤ s .cleared
+pub record PartAsk (g : Graph) (p : Part) (c : Chooser) (s : Machine) (num wor : List ℕ) : Type 0 where
+  pub ask : StepAsk g p c s num wor
+  pub cleared : g .n ≤ s .cleared
   pub given : s .pending ≤ s .given

@@ -1,9 +1,8 @@
 // One step of the machine: a record is cleared, a pending part handed out, or a part divided.
 ghost use mathlib.Core.Path.{_≡_};
 ghost use Prim.Native.Nat.{_+_, _*_};
-ghost use lib.ListN.{length};
-ghost use Rattle.graph.specs.Graph.{graph};
-ghost use Rattle.machine.specs.Aim.{wrapped, aimed as aimedAt};
+ghost use Rattle.graph.specs.Arrows.{SomeOf, EveryOf};
+ghost use Rattle.machine.specs.Aim.{aimed as aimedAt};
 ghost use Rattle.machine.specs.Machine.{base, clearing, handing, ClearAsk, HandAsk, CutAsk, Cut, PartAsk, StepAsk, Stepped, olderThan};
 use crate::Machine;
 use parts::divide;
@@ -51,35 +50,23 @@ fn hand(n: usize, edges: usize, numbers: &[u32], s: Machine) -> Machine
 // The part of a record is divided: the whole by method 1, if it has still to be sliced, else by method 0.
 fn cut(
     n: usize,
-    sources: &[u32],
-    targets: &[u32],
+    m: usize,
     numbers: &mut [u32],
     words: &mut [u64],
     part: Part,
     chooser: Chooser,
     top: usize,
 ) -> Divided
-    requires { ⌜ CutAsk (graph n (now sources) (now targets)) (base n (now sources)) part top (now numbers) (now words) ⌝ }
-    ensures { λ r. ⌜ Cut (graph n (now (sources .entry)) (now (targets .entry))) (base n (now (sources .entry))) (chooser .kind) (part .first) top (part .slicing) (now (numbers .entry)) (now (words .entry)) (now (numbers .exit)) (now (words .exit)) (r .draws) (r .top) (r .children) ⌝ }
+    requires { ⌜ SomeOf n m (λ g. CutAsk g (base g) part top (now numbers) (now words)) ⌝ }
+    ensures { λ r. ⌜ EveryOf n m (λ g. CutAsk g (base g) part top (now (numbers .entry)) (now (words .entry)) → Cut g (base g) (chooser .kind) (part .first) top (part .slicing) (now (numbers .entry)) (now (words .entry)) (now (numbers .exit)) (now (words .exit)) (r .draws) (r .top) (r .children)) ⌝ }
 {
-    let b = 2 * (n + 1 + sources.len());
+    let b = 2 * (n + 1 + m);
     if part.slicing == 1 {
-        return slices::divide::divide(
-            sources,
-            targets,
-            n,
-            numbers,
-            words,
-            b,
-            chooser.kind,
-            chooser.state,
-            top,
-        );
+        return slices::divide::divide(n, m, numbers, words, b, chooser.kind, chooser.state, top);
     }
     divide::divide(
-        sources,
-        targets,
         n,
+        m,
         numbers,
         words,
         b,
@@ -104,18 +91,17 @@ fn older(n: usize, s: Machine) -> usize
 // The record that was taken is divided, and its children are pending.
 fn take(
     n: usize,
-    sources: &[u32],
-    targets: &[u32],
+    m: usize,
     numbers: &mut [u32],
     words: &mut [u64],
     part: Part,
     chooser: Chooser,
     s: Machine,
 ) -> Machine
-    requires { ⌜ PartAsk n (now sources) (now targets) part chooser s (now numbers) (now words) ⌝ }
-    ensures { λ e. ⌜ Stepped n (now (sources .entry)) (now (targets .entry)) part chooser s (now (numbers .entry)) (now (words .entry)) (now (numbers .exit)) (now (words .exit)) e ⌝ }
+    requires { ⌜ SomeOf n m (λ g. PartAsk g part chooser s (now numbers) (now words)) ⌝ }
+    ensures { λ e. ⌜ EveryOf n m (λ g. PartAsk g part chooser s (now (numbers .entry)) (now (words .entry)) → Stepped g part chooser s (now (numbers .entry)) (now (words .entry)) (now (numbers .exit)) (now (words .exit)) e) ⌝ }
 {
-    let r = cut(n, sources, targets, numbers, words, part, chooser, s.top);
+    let r = cut(n, m, numbers, words, part, chooser, s.top);
     let empty = Part {
         first: 0,
         slicing: 0,
@@ -139,22 +125,21 @@ fn take(
 // One step on the record that was taken.
 pub fn step(
     n: usize,
-    sources: &[u32],
-    targets: &[u32],
+    m: usize,
     numbers: &mut [u32],
     words: &mut [u64],
     part: Part,
     chooser: Chooser,
     s: Machine,
 ) -> Machine
-    requires { ⌜ StepAsk n (now sources) (now targets) part chooser s (now numbers) (now words) ⌝ }
-    ensures { λ e. ⌜ Stepped n (now (sources .entry)) (now (targets .entry)) part chooser s (now (numbers .entry)) (now (words .entry)) (now (numbers .exit)) (now (words .exit)) e ⌝ }
+    requires { ⌜ SomeOf n m (λ g. StepAsk g part chooser s (now numbers) (now words)) ⌝ }
+    ensures { λ e. ⌜ EveryOf n m (λ g. StepAsk g part chooser s (now (numbers .entry)) (now (words .entry)) → Stepped g part chooser s (now (numbers .entry)) (now (words .entry)) (now (numbers .exit)) (now (words .exit)) e) ⌝ }
 {
     if s.cleared < n {
         return clear(n, s);
     }
     if s.given < s.pending {
-        return hand(n, sources.len(), numbers, s);
+        return hand(n, m, numbers, s);
     }
-    take(n, sources, targets, numbers, words, part, chooser, s)
+    take(n, m, numbers, words, part, chooser, s)
 }

@@ -1,6 +1,6 @@
 -- `decompose::decompose` meets its promise: a walk of its MIR, by hand. Each reference is lent again to each call, and comes back.
 -- All that the proof knows of the functions called is that they meet their contracts; `promised` puts these together.
-use mathlib.Core.Path.{_≡_, refl, sym, ap, subst, _∙_}
+use mathlib.Core.Path.{_≡_, refl, ap, subst, _∙_}
 use Prim.Native.Nat.{ℕ, _<_, _^_}
 use mathlib.Core.List.{[], _∷_, List}
 use lib.ListN.{length}
@@ -38,6 +38,8 @@ use denote.Triple.Table.{entered, cited}
 use denote.Triple.Walked.{says, Stays, stay-ref, stay-slice, stay-none, stay-none-slice, walkOf, goes-ref, goes-slice, goes-none, goes-none-slice, Walks, ends-at, walked, walk-meets}
 use denote.Exit.{yes}
 use denote.Signature.{plain}
+use Rattle.graph.specs.Graph.{graph}
+use Rattle.graph.specs.Arrows.{arrows, SomeOf, EveryOf}
 use Rattle.waiting.specs.declared.Part.{Part}
 use Rattle.waiting.proofs.Part as P
 use Rattle.pivot.specs.declared.chooser.Chooser.{Chooser}
@@ -53,7 +55,7 @@ use Rattle.decompose.specs.Begin.{Begun}
 use Rattle.decompose.specs.Turns.{DriveAsk, Driven}
 use Rattle.decompose.specs.Finish.{FinishAsk, Ended}
 use Rattle.decompose.specs.Promise.{call, after, Promise}
-use Rattle.decompose.proofs.Promising.{begun-drive, driven-finish, promised}
+use Rattle.decompose.proofs.Promising.{begun-drive, begun-driven, driven-finish, promised}
 use Rattle.decompose.proofs.finish.Answer as N
 use Rattle.decompose.proofs.finish.Answer.Laws as N′
 use Rattle.pivot.proofs.chooser.copy as copy
@@ -168,8 +170,8 @@ module _ {M : Type 1} (𝓤 : URA M) (H : Heap 𝓤) (A : Atoms 𝓤) (W : Given
   abbrev to-begin₂ : ℕ → ℕ → ℕ → Chooser → ℕ → ℕ → ℕ → GName → List ℕ → ℕ → GName → List ℕ → Begin 𝓤 H A mem run .Ghost
   to-begin₂ m-n m-method m-order m-chooser m-waiting m-label νd δd vd νe δe ve = (((κ₀, (κ₁, (κ₃, (νd ∷ [], (νe ∷ [], tt))))), (q₀, (q₁, (q₃, (fullShare, (fullShare, tt))))), tt, (m-n, (r₀ γ₀ (sources), (r₁ γ₁ (targets), (m-method, (m-order, (m-chooser, (r₃ γ₃ (list), (m-waiting, (m-label, (r₆ δd (vd), (r₇ δe (ve), tt))))))))))), (vint w64 m-n ∷ [], (s₀ ∷ [], (s₁ ∷ [], (vint w32 m-method ∷ [], (vint w32 m-order ∷ [], (K′.lowered m-chooser ∷ [], (s₃ ∷ [], (vint w64 m-waiting ∷ [], (vint w64 m-label ∷ [], (s₆ ∷ [], (s₇ ∷ [], tt)))))))))))), tt)
 
-  abbrev to-drive₃ : ℕ → ℕ → GName → Chooser → ℕ → GName → List Part → ℕ → GName → List ℕ → ℕ → GName → List ℕ → Machine → Drive 𝓤 H A mem run .Ghost
-  to-drive₃ m-n νc δc vc νd δd vd νe δe ve νf δf vf m-begun = (((κ₀, (κ₁, (νc ∷ [], (νd ∷ [], (νe ∷ [], (νf ∷ [], tt)))))), (q₀, (q₁, (fullShare, (fullShare, (fullShare, (fullShare, tt)))))), tt, (m-n, (r₀ γ₀ (sources), (r₁ γ₁ (targets), (r₂ δc (vc), (r₄ δd (vd), (r₆ δe (ve), (r₇ δf (vf), (m-begun, tt)))))))), (vint w64 m-n ∷ [], (s₀ ∷ [], (s₁ ∷ [], (vptr b₂ o₂ ∷ [], (s₄ ∷ [], (s₆ ∷ [], (s₇ ∷ [], (O′.lowered m-begun ∷ [], tt))))))))), tt)
+  abbrev to-drive₃ : ℕ → ℕ → ℕ → GName → Chooser → ℕ → GName → List Part → ℕ → GName → List ℕ → ℕ → GName → List ℕ → Machine → Drive 𝓤 H A mem run .Ghost
+  to-drive₃ m-n m-m νa δa va νb δb vb νc δc vc νd δd vd m-begun = (((νa ∷ [], (νb ∷ [], (νc ∷ [], (νd ∷ [], tt)))), (fullShare, (fullShare, (fullShare, (fullShare, tt)))), tt, (m-n, (m-m, (r₂ δa (va), (r₄ δb (vb), (r₆ δc (vc), (r₇ δd (vd), (m-begun, tt))))))), (vint w64 m-n ∷ [], (vint w64 m-m ∷ [], (vptr b₂ o₂ ∷ [], (s₄ ∷ [], (s₆ ∷ [], (s₇ ∷ [], (O′.lowered m-begun ∷ [], tt)))))))), tt)
 
   abbrev to-finish₄ : ℕ → ℕ → ℕ → GName → List ℕ → ℕ → GName → List ℕ → ℕ → GName → List ℕ → Machine → Finish 𝓤 H A mem run .Ghost
   to-finish₄ m-n m-edges νa δa va νb δb vb νc δc vc m-s = (((νa ∷ [], (νb ∷ [], (νc ∷ [], tt))), (fullShare, (fullShare, (fullShare, tt))), tt, (m-n, (m-edges, (r₅ δa (va), (r₆ δb (vb), (r₇ δc (vc), (m-s, tt)))))), (vint w64 m-n ∷ [], (vint w64 m-edges ∷ [], (s₅ ∷ [], (s₆ ∷ [], (s₇ ∷ [], (O′.lowered m-s ∷ [], tt))))))), tt)
@@ -184,10 +186,10 @@ module _ {M : Type 1} (𝓤 : URA M) (H : Heap 𝓤) (A : Atoms 𝓤) (W : Given
       qed W ((((((((((‵ (flft κ₀ q₀) ⊛ ‵ (flft κ₁ q₁)) ⊛ ‵ (flft κ₃ q₃)) ⊛ ‵ (flft (νd ∷ []) fullShare)) ⊛ ‵ (flft (νe ∷ []) fullShare)) ⊛ ‵ (ShrSlice (named 0) κ₀ u32 .own (r₀ γ₀ (sources)) (s₀ ∷ []))) ⊛ ‵ (ShrSlice (named 1) κ₁ u32 .own (r₁ γ₁ (targets)) (s₁ ∷ []))) ⊛ ‵ (ShrSlice (named 2) κ₃ u32 .own (r₃ γ₃ (list)) (s₃ ∷ []))) ⊛ ‵ (MutSlice (named 3) (νd ∷ []) u32 .own (r₆ δd (vd)) (s₆ ∷ []))) ⊛ ‵ (MutSlice (named 4) (νe ∷ []) u64 .own (r₇ δe (ve)) (s₇ ∷ []))) ∷ []) ∵
       split ! $ split ! $ split ! $ split ! $ split ! $ split ! $ split ! $ split ! $ split ! $ nothing ! $ move ! (5 ∷ 0 ∷ []) $ join ! $ move ! (4 ∷ 0 ∷ []) $ join ! $ move ! (3 ∷ 0 ∷ []) $ join ! $ move ! (2 ∷ 0 ∷ []) $ join ! $ move ! (1 ∷ 0 ∷ []) $ join ! $ nothing ! $ move ! (6 ∷ 0 ∷ []) $ fjoin ! $ move ! (5 ∷ 0 ∷ []) $ fjoin ! $ owned ! usize (Is usize) (uint-makes 𝓤 H A W w64) m-label _ (refl, h-label) $ fjoin ! $ owned ! usize (Is usize) (uint-makes 𝓤 H A W w64) m-waiting _ (refl, h-waiting) $ fjoin ! $ move ! (4 ∷ 0 ∷ []) $ fjoin ! $ owned ! K.the-row (Is K.the-row) (LL.makes K.the-type K′.the-plain 𝓤 H A) m-chooser _ (h-chooser) $ fjoin ! $ owned ! u32 (Is u32) (uint-makes 𝓤 H A W w32) m-order _ (refl, h-order) $ fjoin ! $ owned ! u32 (Is u32) (uint-makes 𝓤 H A W w32) m-method _ (refl, h-method) $ fjoin ! $ move ! (3 ∷ 0 ∷ []) $ fjoin ! $ move ! (2 ∷ 0 ∷ []) $ fjoin ! $ owned ! usize (Is usize) (uint-makes 𝓤 H A W w64) m-n _ (refl, h-n) $ fjoin ! $ move ! (1 ∷ 0 ∷ []) $ join ! $ frame ! $ done !
 
-  goes-drive₃ : (m-n : ℕ) (νc : ℕ) (δc : GName) (vc : Chooser) (νd : ℕ) (δd : GName) (vd : List Part) (νe : ℕ) (δe : GName) (ve : List ℕ) (νf : ℕ) (δf : GName) (vf : List ℕ) (m-begun : Machine) (h-n : m-n < 2 ^ 64) (h-begun : Is O.the-row m-begun (O′.lowered m-begun ∷ [])) (h· : DriveAsk m-n sources targets vc vd ve vf m-begun) → ent 𝓤 (sep 𝓤 ((sep 𝓤 ((sep 𝓤 ((sep 𝓤 ((sep 𝓤 ((sep 𝓤 ((sep 𝓤 ((sep 𝓤 ((sep 𝓤 ((sep 𝓤 ((sep 𝓤 (A .lft κ₀ q₀) (A .lft κ₁ q₁))) (A .lft (νc ∷ []) fullShare))) (A .lft (νd ∷ []) fullShare))) (A .lft (νe ∷ []) fullShare))) (A .lft (νf ∷ []) fullShare))) (sem 𝓤 H A (ShrSlice (named 0) κ₀ u32 .own (r₀ γ₀ (sources)) (s₀ ∷ []))))) (sem 𝓤 H A (ShrSlice (named 1) κ₁ u32 .own (r₁ γ₁ (targets)) (s₁ ∷ []))))) (sem 𝓤 H A (MutRef (named 2) (νc ∷ []) K.the-row .own (r₂ δc (vc)) (vptr b₂ o₂ ∷ []))))) (sem 𝓤 H A (MutSlice (named 3) (νd ∷ []) P.the-row .own (r₄ δd (vd)) (s₄ ∷ []))))) (sem 𝓤 H A (MutSlice (named 4) (νe ∷ []) u32 .own (r₆ δe (ve)) (s₆ ∷ []))))) (sem 𝓤 H A (MutSlice (named 5) (νf ∷ []) u64 .own (r₇ δf (vf)) (s₇ ∷ [])))) (Drive 𝓤 H A mem run .pre (to-drive₃ m-n νc δc vc νd δd vd νe δe ve νf δf vf m-begun))
-  goes-drive₃ m-n νc δc vc νd δd vd νe δe ve νf δf vf m-begun h-n h-begun h· =
-      qed W ((((((((((((‵ (flft κ₀ q₀) ⊛ ‵ (flft κ₁ q₁)) ⊛ ‵ (flft (νc ∷ []) fullShare)) ⊛ ‵ (flft (νd ∷ []) fullShare)) ⊛ ‵ (flft (νe ∷ []) fullShare)) ⊛ ‵ (flft (νf ∷ []) fullShare)) ⊛ ‵ (ShrSlice (named 0) κ₀ u32 .own (r₀ γ₀ (sources)) (s₀ ∷ []))) ⊛ ‵ (ShrSlice (named 1) κ₁ u32 .own (r₁ γ₁ (targets)) (s₁ ∷ []))) ⊛ ‵ (MutRef (named 2) (νc ∷ []) K.the-row .own (r₂ δc (vc)) (vptr b₂ o₂ ∷ []))) ⊛ ‵ (MutSlice (named 3) (νd ∷ []) P.the-row .own (r₄ δd (vd)) (s₄ ∷ []))) ⊛ ‵ (MutSlice (named 4) (νe ∷ []) u32 .own (r₆ δe (ve)) (s₆ ∷ []))) ⊛ ‵ (MutSlice (named 5) (νf ∷ []) u64 .own (r₇ δf (vf)) (s₇ ∷ []))) ∷ []) ∵
-      says ! h· $ split ! $ split ! $ split ! $ split ! $ split ! $ split ! $ split ! $ split ! $ split ! $ split ! $ split ! $ nothing ! $ move ! (6 ∷ 0 ∷ []) $ join ! $ move ! (5 ∷ 0 ∷ []) $ join ! $ move ! (4 ∷ 0 ∷ []) $ join ! $ move ! (3 ∷ 0 ∷ []) $ join ! $ move ! (2 ∷ 0 ∷ []) $ join ! $ move ! (1 ∷ 0 ∷ []) $ join ! $ frame ! $ nothing ! $ owned ! O.the-row (Is O.the-row) (LL.makes O.the-type O′.the-plain 𝓤 H A) m-begun _ (h-begun) $ fjoin ! $ move ! (6 ∷ 0 ∷ []) $ fjoin ! $ move ! (5 ∷ 0 ∷ []) $ fjoin ! $ move ! (4 ∷ 0 ∷ []) $ fjoin ! $ move ! (3 ∷ 0 ∷ []) $ fjoin ! $ move ! (2 ∷ 0 ∷ []) $ fjoin ! $ move ! (1 ∷ 0 ∷ []) $ fjoin ! $ owned ! usize (Is usize) (uint-makes 𝓤 H A W w64) m-n _ (refl, h-n) $ fjoin ! $ done !
+  goes-drive₃ : (m-n : ℕ) (m-m : ℕ) (νa : ℕ) (δa : GName) (va : Chooser) (νb : ℕ) (δb : GName) (vb : List Part) (νc : ℕ) (δc : GName) (vc : List ℕ) (νd : ℕ) (δd : GName) (vd : List ℕ) (m-begun : Machine) (h-n : m-n < 2 ^ 64) (h-m : m-m < 2 ^ 64) (h-begun : Is O.the-row m-begun (O′.lowered m-begun ∷ [])) (h· : SomeOf m-n m-m (λ g. DriveAsk g va vb vc vd m-begun)) → ent 𝓤 (sep 𝓤 ((sep 𝓤 ((sep 𝓤 ((sep 𝓤 ((sep 𝓤 ((sep 𝓤 ((sep 𝓤 (A .lft (νa ∷ []) fullShare) (A .lft (νb ∷ []) fullShare))) (A .lft (νc ∷ []) fullShare))) (A .lft (νd ∷ []) fullShare))) (sem 𝓤 H A (MutRef (named 0) (νa ∷ []) K.the-row .own (r₂ δa (va)) (vptr b₂ o₂ ∷ []))))) (sem 𝓤 H A (MutSlice (named 1) (νb ∷ []) P.the-row .own (r₄ δb (vb)) (s₄ ∷ []))))) (sem 𝓤 H A (MutSlice (named 2) (νc ∷ []) u32 .own (r₆ δc (vc)) (s₆ ∷ []))))) (sem 𝓤 H A (MutSlice (named 3) (νd ∷ []) u64 .own (r₇ δd (vd)) (s₇ ∷ [])))) (Drive 𝓤 H A mem run .pre (to-drive₃ m-n m-m νa δa va νb δb vb νc δc vc νd δd vd m-begun))
+  goes-drive₃ m-n m-m νa δa va νb δb vb νc δc vc νd δd vd m-begun h-n h-m h-begun h· =
+      qed W ((((((((‵ (flft (νa ∷ []) fullShare) ⊛ ‵ (flft (νb ∷ []) fullShare)) ⊛ ‵ (flft (νc ∷ []) fullShare)) ⊛ ‵ (flft (νd ∷ []) fullShare)) ⊛ ‵ (MutRef (named 0) (νa ∷ []) K.the-row .own (r₂ δa (va)) (vptr b₂ o₂ ∷ []))) ⊛ ‵ (MutSlice (named 1) (νb ∷ []) P.the-row .own (r₄ δb (vb)) (s₄ ∷ []))) ⊛ ‵ (MutSlice (named 2) (νc ∷ []) u32 .own (r₆ δc (vc)) (s₆ ∷ []))) ⊛ ‵ (MutSlice (named 3) (νd ∷ []) u64 .own (r₇ δd (vd)) (s₇ ∷ []))) ∷ []) ∵
+      says ! h· $ split ! $ split ! $ split ! $ split ! $ split ! $ split ! $ split ! $ nothing ! $ move ! (4 ∷ 0 ∷ []) $ join ! $ move ! (3 ∷ 0 ∷ []) $ join ! $ move ! (2 ∷ 0 ∷ []) $ join ! $ move ! (1 ∷ 0 ∷ []) $ join ! $ frame ! $ nothing ! $ owned ! O.the-row (Is O.the-row) (LL.makes O.the-type O′.the-plain 𝓤 H A) m-begun _ (h-begun) $ fjoin ! $ move ! (4 ∷ 0 ∷ []) $ fjoin ! $ move ! (3 ∷ 0 ∷ []) $ fjoin ! $ move ! (2 ∷ 0 ∷ []) $ fjoin ! $ move ! (1 ∷ 0 ∷ []) $ fjoin ! $ owned ! usize (Is usize) (uint-makes 𝓤 H A W w64) m-m _ (refl, h-m) $ fjoin ! $ owned ! usize (Is usize) (uint-makes 𝓤 H A W w64) m-n _ (refl, h-n) $ fjoin ! $ done !
 
   goes-finish₄ : (m-n : ℕ) (m-edges : ℕ) (νa : ℕ) (δa : GName) (va : List ℕ) (νb : ℕ) (δb : GName) (vb : List ℕ) (νc : ℕ) (δc : GName) (vc : List ℕ) (m-s : Machine) (h-n : m-n < 2 ^ 64) (h-edges : m-edges < 2 ^ 64) (h-s : Is O.the-row m-s (O′.lowered m-s ∷ [])) (h· : FinishAsk m-n m-edges va vb vc m-s) → ent 𝓤 (sep 𝓤 ((sep 𝓤 ((sep 𝓤 ((sep 𝓤 ((sep 𝓤 (A .lft (νa ∷ []) fullShare) (A .lft (νb ∷ []) fullShare))) (A .lft (νc ∷ []) fullShare))) (sem 𝓤 H A (MutSlice (named 0) (νa ∷ []) u32 .own (r₅ δa (va)) (s₅ ∷ []))))) (sem 𝓤 H A (MutSlice (named 1) (νb ∷ []) u32 .own (r₆ δb (vb)) (s₆ ∷ []))))) (sem 𝓤 H A (MutSlice (named 2) (νc ∷ []) u64 .own (r₇ δc (vc)) (s₇ ∷ [])))) (Finish 𝓤 H A mem run .pre (to-finish₄ m-n m-edges νa δa va νb δb vb νc δc vc m-s))
   goes-finish₄ m-n m-edges νa δa va νb δb vb νc δc vc m-s h-n h-edges h-s h· =
@@ -359,6 +361,7 @@ module _ {M : Type 1} (𝓤 : URA M) (H : Heap 𝓤) (A : Atoms 𝓤) (W : Given
         move ! (2 ∷ 6 ∷ 7 ∷ []) $
         back-at ! tt u64 (named 7) (named 4) κ₇ q₇ γ₇ b₇ o₇ (words) (z₂ .1 .1 .1 .1 .1 .1 .1 .1 .1 .1 .0) ν₂e δ₂e (length words) room₇ (refl) l₂e $
         -- drive
+        assigns ! (of-opd ! (load ! (from ! (fld ! refl (stop !))) (look-in ! 80 (sub ! 1 refl (whole !))))) (from ! (stop !)) (store ! 52 refl (tt, record { fits = room₀ .0 })) $
         assigns ! (addr ! (from ! (hop ! (look ! 72 refl) (stop !)))) (from ! (stop !)) (init ! 40 refl (tt, tt)) $
         assigns ! (addr ! (from ! (fld ! refl (hop ! (look-in ! 68 (sub ! 0 refl (whole !))) (stop !))))) (from ! (stop !)) (init ! 38 refl (tt, tt)) $
         assigns ! (agg ! (and-then ! (load ! (from ! (stop !)) (look ! 38 refl)) (and-then ! (load ! (from ! (fld ! refl (stop !))) (look-in ! 68 (sub ! 1 refl (whole !)))) (no-more !)))) (from ! (stop !)) (init ! 36 refl (tt, (tt, (record { fits = room₄ .0 }, tt)))) $
@@ -366,21 +369,15 @@ module _ {M : Type 1} (𝓤 : URA M) (H : Heap 𝓤) (A : Atoms 𝓤) (W : Given
         assigns ! (agg ! (and-then ! (load ! (from ! (stop !)) (look ! 34 refl)) (and-then ! (load ! (from ! (fld ! refl (stop !))) (look-in ! 64 (sub ! 1 refl (whole !)))) (no-more !)))) (from ! (stop !)) (init ! 32 refl (tt, (tt, (record { fits = room₆ .0 }, tt)))) $
         assigns ! (addr ! (from ! (fld ! refl (hop ! (look-in ! 62 (sub ! 0 refl (whole !))) (stop !))))) (from ! (stop !)) (init ! 30 refl (tt, tt)) $
         assigns ! (agg ! (and-then ! (load ! (from ! (stop !)) (look ! 30 refl)) (and-then ! (load ! (from ! (fld ! refl (stop !))) (look-in ! 62 (sub ! 1 refl (whole !)))) (no-more !)))) (from ! (stop !)) (init ! 28 refl (tt, (tt, (record { fits = room₇ .0 }, tt)))) $
-        move ! (9 ∷ []) $
-        use1 W (‵ (ShrSlice (named 0) κ₀ u32 .own (r₀ γ₀ (sources)) (s₀ ∷ [])) ⊛ ‵ (ShrSlice (named 0) κ₀ u32 .own (r₀ γ₀ (sources)) (s₀ ∷ []))) (shr-slice-copy 𝓤 H A W (named 0) κ₀ u32 .twice (r₀ γ₀ (sources)) (s₀ ∷ [])) $
-        split ! $
-        move ! (10 ∷ []) $
-        use1 W (‵ (ShrSlice (named 1) κ₁ u32 .own (r₁ γ₁ (targets)) (s₁ ∷ [])) ⊛ ‵ (ShrSlice (named 1) κ₁ u32 .own (r₁ γ₁ (targets)) (s₁ ∷ []))) (shr-slice-copy 𝓤 H A W (named 1) κ₁ u32 .twice (r₁ γ₁ (targets)) (s₁ ∷ [])) $
-        split ! $
-        move ! (12 ∷ 13 ∷ []) $
-        lend-ref ! tt K.the-row (named 2) (named 2) κ₂ q₂ γ₂ b₂ o₂ (z₁ .0) (λ ν₃c δ₃c.
-        move ! (16 ∷ 18 ∷ []) $
-        lend-at ! tt P.the-row (named 4) (named 3) κ₄ q₄ γ₄ b₄ o₄ (waiting) (length waiting) (refl) (λ ν₃d δ₃d.
-        move ! (12 ∷ 13 ∷ []) $
-        lend-at ! tt u32 (named 6) (named 4) κ₆ q₆ γ₆ b₆ o₆ (z₂ .1 .1 .1 .1 .1 .1 .1 .1 .1 .0) (length numbers) (l₂d) (λ ν₃e δ₃e.
-        move ! (13 ∷ 14 ∷ []) $
-        lend-at ! tt u64 (named 7) (named 5) κ₇ q₇ γ₇ b₇ o₇ (z₂ .1 .1 .1 .1 .1 .1 .1 .1 .1 .1 .0) (length words) (l₂e) (λ ν₃f δ₃f.
-        move ! (18 ∷ 17 ∷ 9 ∷ 6 ∷ 3 ∷ 0 ∷ 14 ∷ 12 ∷ 10 ∷ 7 ∷ 4 ∷ 1 ∷ []) $
+        move ! (10 ∷ 11 ∷ []) $
+        lend-ref ! tt K.the-row (named 2) (named 0) κ₂ q₂ γ₂ b₂ o₂ (z₁ .0) (λ ν₃a δ₃a.
+        move ! (14 ∷ 16 ∷ []) $
+        lend-at ! tt P.the-row (named 4) (named 1) κ₄ q₄ γ₄ b₄ o₄ (waiting) (length waiting) (refl) (λ ν₃b δ₃b.
+        move ! (8 ∷ 9 ∷ []) $
+        lend-at ! tt u32 (named 6) (named 2) κ₆ q₆ γ₆ b₆ o₆ (z₂ .1 .1 .1 .1 .1 .1 .1 .1 .1 .0) (length numbers) (l₂d) (λ ν₃c δ₃c.
+        move ! (9 ∷ 10 ∷ []) $
+        lend-at ! tt u64 (named 7) (named 3) κ₇ q₇ γ₇ b₇ o₇ (z₂ .1 .1 .1 .1 .1 .1 .1 .1 .1 .1 .0) (length words) (l₂e) (λ ν₃d δ₃d.
+        move ! (9 ∷ 6 ∷ 3 ∷ 0 ∷ 10 ∷ 7 ∷ 4 ∷ 1 ∷ []) $
         join ! $
         join ! $
         join ! $
@@ -388,48 +385,42 @@ module _ {M : Type 1} (𝓤 : URA M) (H : Heap 𝓤) (A : Atoms 𝓤) (W : Given
         join ! $
         join ! $
         join ! $
-        join ! $
-        join ! $
-        join ! $
-        join ! $
-        use1 W (raw (Drive 𝓤 H A mem run .pre (to-drive₃ (n) ν₃c δ₃c (z₁ .0) ν₃d δ₃d (waiting) ν₃e δ₃e (z₂ .1 .1 .1 .1 .1 .1 .1 .1 .1 .0) ν₃f δ₃f (z₂ .1 .1 .1 .1 .1 .1 .1 .1 .1 .1 .0) (x₂)))) (goes-drive₃ (n) ν₃c δ₃c (z₁ .0) ν₃d δ₃d (waiting) ν₃e δ₃e (z₂ .1 .1 .1 .1 .1 .1 .1 .1 .1 .0) ν₃f δ₃f (z₂ .1 .1 .1 .1 .1 .1 .1 .1 .1 .1 .0) (x₂) (is-n) (subst (Is O.the-row x₂) (LL.tells O.the-type O′.the-laws x₂ _ is₂) is₂) (subst (λ (c′ : Chooser). DriveAsk n sources targets c′ waiting (z₂ .1 .1 .1 .1 .1 .1 .1 .1 .1 .0) (z₂ .1 .1 .1 .1 .1 .1 .1 .1 .1 .1 .0) x₂) (e₁ .0 ∙ sym (e₁ .1)) (begun-drive waiting e₂))) $
-        calls-at ! fm (Drive 𝓤 H A mem run) known-drive (to-drive₃ (n) ν₃c δ₃c (z₁ .0) ν₃d δ₃d (waiting) ν₃e δ₃e (z₂ .1 .1 .1 .1 .1 .1 .1 .1 .1 .0) ν₃f δ₃f (z₂ .1 .1 .1 .1 .1 .1 .1 .1 .1 .1 .0) (x₂)) (and-then ! (load ! (from ! (stop !)) (look ! 77 refl)) (and-then ! (load ! (from ! (stop !)) (look ! 75 refl)) (and-then ! (load ! (from ! (stop !)) (look ! 73 refl)) (and-then ! (load ! (from ! (stop !)) (look ! 35 refl)) (and-then ! (load ! (from ! (stop !)) (look ! 31 refl)) (and-then ! (load ! (from ! (stop !)) (look ! 27 refl)) (and-then ! (load ! (from ! (stop !)) (look ! 23 refl)) (and-then ! (load ! (from ! (stop !)) (look ! 53 refl)) (no-more !))))))))) (λ w₃.
-        use1 W (later (some (λ (x₃ : Machine). ((‵ (flft κ₀ q₀) ⊛ ‵ (flft κ₁ q₁) ⊛ ‵ (flft (ν₃c ∷ []) fullShare) ⊛ ‵ (flft (ν₃d ∷ []) fullShare) ⊛ ‵ (flft (ν₃e ∷ []) fullShare) ⊛ ‵ (flft (ν₃f ∷ []) fullShare) ⊛ ‵ ftrue) ⊛ ‵ (O.the-row .own x₃ (w₃ ∷ []))) ⊛ raw (ensured 𝓤 H A drive.ended (drive.clauses 𝓤 H A mem run) (κ₀, (κ₁, (ν₃c ∷ [], (ν₃d ∷ [], (ν₃e ∷ [], (ν₃f ∷ [], tt)))))) ((n), (r₀ γ₀ (sources), (r₁ γ₁ (targets), (r₂ δ₃c (z₁ .0), (r₄ δ₃d (waiting), (r₆ δ₃e (z₂ .1 .1 .1 .1 .1 .1 .1 .1 .1 .0), (r₇ δ₃f (z₂ .1 .1 .1 .1 .1 .1 .1 .1 .1 .1 .0), ((x₂), tt)))))))) tt x₃)))) (id⊢ 𝓤 _) $ await ! tt $ pick ! (λ x₃.
+        use1 W (raw (Drive 𝓤 H A mem run .pre (to-drive₃ (n) (length sources) ν₃a δ₃a (z₁ .0) ν₃b δ₃b (waiting) ν₃c δ₃c (z₂ .1 .1 .1 .1 .1 .1 .1 .1 .1 .0) ν₃d δ₃d (z₂ .1 .1 .1 .1 .1 .1 .1 .1 .1 .1 .0) (x₂)))) (goes-drive₃ (n) (length sources) ν₃a δ₃a (z₁ .0) ν₃b δ₃b (waiting) ν₃c δ₃c (z₂ .1 .1 .1 .1 .1 .1 .1 .1 .1 .0) ν₃d δ₃d (z₂ .1 .1 .1 .1 .1 .1 .1 .1 .1 .1 .0) (x₂) (is-n) (room₀ .0) (subst (Is O.the-row x₂) (LL.tells O.the-type O′.the-laws x₂ _ is₂) is₂) (arrows (graph n sources targets), begun-drive e₁ e₂)) $
+        calls-at ! fm (Drive 𝓤 H A mem run) known-drive (to-drive₃ (n) (length sources) ν₃a δ₃a (z₁ .0) ν₃b δ₃b (waiting) ν₃c δ₃c (z₂ .1 .1 .1 .1 .1 .1 .1 .1 .1 .0) ν₃d δ₃d (z₂ .1 .1 .1 .1 .1 .1 .1 .1 .1 .1 .0) (x₂)) (and-then ! (load ! (from ! (stop !)) (look ! 79 refl)) (and-then ! (load ! (from ! (stop !)) (look ! 49 refl)) (and-then ! (load ! (from ! (stop !)) (look ! 37 refl)) (and-then ! (load ! (from ! (stop !)) (look ! 33 refl)) (and-then ! (load ! (from ! (stop !)) (look ! 29 refl)) (and-then ! (load ! (from ! (stop !)) (look ! 25 refl)) (and-then ! (load ! (from ! (stop !)) (look ! 55 refl)) (no-more !)))))))) (λ w₃.
+        use1 W (later (some (λ (x₃ : Machine). ((‵ (flft (ν₃a ∷ []) fullShare) ⊛ ‵ (flft (ν₃b ∷ []) fullShare) ⊛ ‵ (flft (ν₃c ∷ []) fullShare) ⊛ ‵ (flft (ν₃d ∷ []) fullShare) ⊛ ‵ ftrue) ⊛ ‵ (O.the-row .own x₃ (w₃ ∷ []))) ⊛ raw (ensured 𝓤 H A drive.ended (drive.clauses 𝓤 H A mem run) (ν₃a ∷ [], (ν₃b ∷ [], (ν₃c ∷ [], (ν₃d ∷ [], tt)))) ((n), ((length sources), (r₂ δ₃a (z₁ .0), (r₄ δ₃b (waiting), (r₆ δ₃c (z₂ .1 .1 .1 .1 .1 .1 .1 .1 .1 .0), (r₇ δ₃d (z₂ .1 .1 .1 .1 .1 .1 .1 .1 .1 .1 .0), ((x₂), tt))))))) tt x₃)))) (id⊢ 𝓤 _) $ await ! tt $ pick ! (λ x₃.
         split ! $
         move ! (1 ∷ []) $
-        use1 W (some (λ (z₃ : Unit {0} × (Unit {0} × (Unit {0} × (Chooser × (List Part × (List ℕ × (List ℕ × (Unit {0} × Unit {0})))))))). ‵ (lasts drive.ended (κ₀, (κ₁, (ν₃c ∷ [], (ν₃d ∷ [], (ν₃e ∷ [], (ν₃f ∷ [], tt)))))) ((n), (r₀ γ₀ (sources), (r₁ γ₁ (targets), (r₂ δ₃c (z₁ .0), (r₄ δ₃d (waiting), (r₆ δ₃e (z₂ .1 .1 .1 .1 .1 .1 .1 .1 .1 .0), (r₇ δ₃f (z₂ .1 .1 .1 .1 .1 .1 .1 .1 .1 .1 .0), ((x₂), tt)))))))) z₃) ⊛ raw (fact 𝓤 (Driven (n) sources targets (z₁ .0) (waiting) (z₂ .1 .1 .1 .1 .1 .1 .1 .1 .1 .0) (z₂ .1 .1 .1 .1 .1 .1 .1 .1 .1 .1 .0) (x₂) (z₃ .1 .1 .1 .0) (z₃ .1 .1 .1 .1 .0) (z₃ .1 .1 .1 .1 .1 .0) (z₃ .1 .1 .1 .1 .1 .1 .0) x₃)))) (id⊢ 𝓤 _) $ pick ! (λ z₃.
+        use1 W (some (λ (z₃ : Unit {0} × (Unit {0} × (Chooser × (List Part × (List ℕ × (List ℕ × (Unit {0} × Unit {0}))))))). ‵ (lasts drive.ended (ν₃a ∷ [], (ν₃b ∷ [], (ν₃c ∷ [], (ν₃d ∷ [], tt)))) ((n), ((length sources), (r₂ δ₃a (z₁ .0), (r₄ δ₃b (waiting), (r₆ δ₃c (z₂ .1 .1 .1 .1 .1 .1 .1 .1 .1 .0), (r₇ δ₃d (z₂ .1 .1 .1 .1 .1 .1 .1 .1 .1 .1 .0), ((x₂), tt))))))) z₃) ⊛ raw (fact 𝓤 (EveryOf (n) (length sources) (λ g. DriveAsk g (z₁ .0) (waiting) (z₂ .1 .1 .1 .1 .1 .1 .1 .1 .1 .0) (z₂ .1 .1 .1 .1 .1 .1 .1 .1 .1 .1 .0) (x₂) → Driven g (z₁ .0) (waiting) (z₂ .1 .1 .1 .1 .1 .1 .1 .1 .1 .0) (z₂ .1 .1 .1 .1 .1 .1 .1 .1 .1 .1 .0) (x₂) (z₃ .1 .1 .0) (z₃ .1 .1 .1 .0) (z₃ .1 .1 .1 .1 .0) (z₃ .1 .1 .1 .1 .1 .0) x₃))))) (id⊢ 𝓤 _) $ pick ! (λ z₃.
         split ! $
         move ! (1 ∷ []) $
-        heard ! (Driven (n) sources targets (z₁ .0) (waiting) (z₂ .1 .1 .1 .1 .1 .1 .1 .1 .1 .0) (z₂ .1 .1 .1 .1 .1 .1 .1 .1 .1 .1 .0) (x₂) (z₃ .1 .1 .1 .0) (z₃ .1 .1 .1 .1 .0) (z₃ .1 .1 .1 .1 .1 .0) (z₃ .1 .1 .1 .1 .1 .1 .0) x₃) (λ e₃.
+        heard ! (EveryOf (n) (length sources) (λ g. DriveAsk g (z₁ .0) (waiting) (z₂ .1 .1 .1 .1 .1 .1 .1 .1 .1 .0) (z₂ .1 .1 .1 .1 .1 .1 .1 .1 .1 .1 .0) (x₂) → Driven g (z₁ .0) (waiting) (z₂ .1 .1 .1 .1 .1 .1 .1 .1 .1 .0) (z₂ .1 .1 .1 .1 .1 .1 .1 .1 .1 .1 .0) (x₂) (z₃ .1 .1 .0) (z₃ .1 .1 .1 .0) (z₃ .1 .1 .1 .1 .0) (z₃ .1 .1 .1 .1 .1 .0) x₃)) (λ e₃.
         fsplit ! $
         drop ! $
         fsplit ! $
         drop ! $
         fsplit ! $
-        drop ! $
+        move ! (1 ∷ []) $
         fsplit ! $
+        fsplit ! $
+        move ! (1 ∷ []) $
+        feqL ! (λ l₃b.
+        move ! (1 ∷ []) $
+        fsplit ! $
+        fsplit ! $
+        move ! (1 ∷ []) $
+        feqL ! (λ l₃c.
         move ! (1 ∷ []) $
         fsplit ! $
         fsplit ! $
         move ! (1 ∷ []) $
         feqL ! (λ l₃d.
         move ! (1 ∷ []) $
-        fsplit ! $
-        fsplit ! $
-        move ! (1 ∷ []) $
-        feqL ! (λ l₃e.
-        move ! (1 ∷ []) $
-        fsplit ! $
-        fsplit ! $
-        move ! (1 ∷ []) $
-        feqL ! (λ l₃f.
-        move ! (1 ∷ []) $
         drop ! $
         move ! (4 ∷ []) $
         split ! $
         move ! (1 ∷ []) $
         peeks ! O.the-row (Is O.the-row) (shows 𝓤 H A O.the-row) x₃ (w₃ ∷ []) (λ is₃.
-        land ! (from ! (stop !)) (init ! 56 refl (LL.lawful O.the-type O′.the-laws 𝓤 H A W .typed _ _ (is₃) .0)) $ rewrite ! 56 (λ (u : Val). ‵ (fat fullShare O′.mir l₁₄ 0 u)) (ap only (LL.tells O.the-type O′.the-laws _ _ is₃)) refl $
+        land ! (from ! (stop !)) (init ! 58 refl (LL.lawful O.the-type O′.the-laws 𝓤 H A W .typed _ _ (is₃) .0)) $ rewrite ! 58 (λ (u : Val). ‵ (fat fullShare O′.mir l₁₄ 0 u)) (ap only (LL.tells O.the-type O′.the-laws _ _ is₃)) refl $
         drop ! $
         split ! $
         move ! (1 ∷ []) $
@@ -439,21 +430,17 @@ module _ {M : Type 1} (𝓤 : URA M) (H : Heap 𝓤) (A : Atoms 𝓤) (W : Given
         move ! (1 ∷ []) $
         split ! $
         move ! (1 ∷ []) $
-        split ! $
-        move ! (1 ∷ []) $
-        split ! $
-        move ! (1 ∷ []) $
         drop ! $
-        move ! (3 ∷ 9 ∷ 13 ∷ []) $
-        back-ref ! tt K.the-row (named 2) (named 2) κ₂ q₂ γ₂ b₂ o₂ (z₁ .0) (z₃ .1 .1 .1 .0) ν₃c δ₃c $
-        move ! (4 ∷ 9 ∷ 12 ∷ []) $
-        back-at ! tt P.the-row (named 4) (named 3) κ₄ q₄ γ₄ b₄ o₄ (waiting) (z₃ .1 .1 .1 .1 .0) ν₃d δ₃d (length waiting) room₄ (refl) l₃d $
-        move ! (5 ∷ 9 ∷ 11 ∷ []) $
-        back-at ! tt u32 (named 6) (named 4) κ₆ q₆ γ₆ b₆ o₆ (z₂ .1 .1 .1 .1 .1 .1 .1 .1 .1 .0) (z₃ .1 .1 .1 .1 .1 .0) ν₃e δ₃e (length numbers) room₆ (l₂d) l₃e $
-        move ! (6 ∷ 9 ∷ 10 ∷ []) $
-        back-at ! tt u64 (named 7) (named 5) κ₇ q₇ γ₇ b₇ o₇ (z₂ .1 .1 .1 .1 .1 .1 .1 .1 .1 .1 .0) (z₃ .1 .1 .1 .1 .1 .1 .0) ν₃f δ₃f (length words) room₇ (l₂e) l₃f $
+        move ! (3 ∷ 7 ∷ 11 ∷ []) $
+        back-ref ! tt K.the-row (named 2) (named 0) κ₂ q₂ γ₂ b₂ o₂ (z₁ .0) (z₃ .1 .1 .0) ν₃a δ₃a $
+        move ! (4 ∷ 7 ∷ 10 ∷ []) $
+        back-at ! tt P.the-row (named 4) (named 1) κ₄ q₄ γ₄ b₄ o₄ (waiting) (z₃ .1 .1 .1 .0) ν₃b δ₃b (length waiting) room₄ (refl) l₃b $
+        move ! (5 ∷ 7 ∷ 9 ∷ []) $
+        back-at ! tt u32 (named 6) (named 2) κ₆ q₆ γ₆ b₆ o₆ (z₂ .1 .1 .1 .1 .1 .1 .1 .1 .1 .0) (z₃ .1 .1 .1 .1 .0) ν₃c δ₃c (length numbers) room₆ (l₂d) l₃c $
+        move ! (6 ∷ 7 ∷ 8 ∷ []) $
+        back-at ! tt u64 (named 7) (named 3) κ₇ q₇ γ₇ b₇ o₇ (z₂ .1 .1 .1 .1 .1 .1 .1 .1 .1 .1 .0) (z₃ .1 .1 .1 .1 .1 .0) ν₃d δ₃d (length words) room₇ (l₂e) l₃d $
         -- finish
-        assigns ! (of-opd ! (load ! (from ! (fld ! refl (stop !))) (look-in ! 80 (sub ! 1 refl (whole !))))) (from ! (stop !)) (store ! 52 refl (tt, record { fits = room₀ .0 })) $
+        assigns ! (of-opd ! (load ! (from ! (fld ! refl (stop !))) (look-in ! 80 (sub ! 1 refl (whole !))))) (from ! (stop !)) (store ! 50 refl (tt, record { fits = room₀ .0 })) $
         assigns ! (addr ! (from ! (fld ! refl (hop ! (look-in ! 66 (sub ! 0 refl (whole !))) (stop !))))) (from ! (stop !)) (init ! 26 refl (tt, tt)) $
         assigns ! (agg ! (and-then ! (load ! (from ! (stop !)) (look ! 26 refl)) (and-then ! (load ! (from ! (fld ! refl (stop !))) (look-in ! 66 (sub ! 1 refl (whole !)))) (no-more !)))) (from ! (stop !)) (init ! 24 refl (tt, (tt, (record { fits = room₅ .0 }, tt)))) $
         assigns ! (addr ! (from ! (fld ! refl (hop ! (look-in ! 64 (sub ! 0 refl (whole !))) (stop !))))) (from ! (stop !)) (init ! 22 refl (tt, tt)) $
@@ -463,24 +450,24 @@ module _ {M : Type 1} (𝓤 : URA M) (H : Heap 𝓤) (A : Atoms 𝓤) (W : Given
         move ! (14 ∷ 15 ∷ []) $
         lend-at ! tt u32 (named 5) (named 0) κ₅ q₅ γ₅ b₅ o₅ (label) (length label) (refl) (λ ν₄a δ₄a.
         move ! (5 ∷ 6 ∷ []) $
-        lend-at ! tt u32 (named 6) (named 1) κ₆ q₆ γ₆ b₆ o₆ (z₃ .1 .1 .1 .1 .1 .0) (length numbers) (l₃e ∙ l₂d) (λ ν₄b δ₄b.
+        lend-at ! tt u32 (named 6) (named 1) κ₆ q₆ γ₆ b₆ o₆ (z₃ .1 .1 .1 .1 .0) (length numbers) (l₃c ∙ l₂d) (λ ν₄b δ₄b.
         move ! (6 ∷ 7 ∷ []) $
-        lend-at ! tt u64 (named 7) (named 2) κ₇ q₇ γ₇ b₇ o₇ (z₃ .1 .1 .1 .1 .1 .1 .0) (length words) (l₃f ∙ l₂e) (λ ν₄c δ₄c.
+        lend-at ! tt u64 (named 7) (named 2) κ₇ q₇ γ₇ b₇ o₇ (z₃ .1 .1 .1 .1 .1 .0) (length words) (l₃d ∙ l₂e) (λ ν₄c δ₄c.
         move ! (6 ∷ 3 ∷ 0 ∷ 7 ∷ 4 ∷ 1 ∷ []) $
         join ! $
         join ! $
         join ! $
         join ! $
         join ! $
-        use1 W (raw (Finish 𝓤 H A mem run .pre (to-finish₄ (n) (length sources) ν₄a δ₄a (label) ν₄b δ₄b (z₃ .1 .1 .1 .1 .1 .0) ν₄c δ₄c (z₃ .1 .1 .1 .1 .1 .1 .0) (x₃)))) (goes-finish₄ (n) (length sources) ν₄a δ₄a (label) ν₄b δ₄b (z₃ .1 .1 .1 .1 .1 .0) ν₄c δ₄c (z₃ .1 .1 .1 .1 .1 .1 .0) (x₃) (is-n) (room₀ .0) (subst (Is O.the-row x₃) (LL.tells O.the-type O′.the-laws x₃ _ is₃) is₃) (driven-finish e₂ e₃)) $
-        calls-at ! fm (Finish 𝓤 H A mem run) known-finish (to-finish₄ (n) (length sources) ν₄a δ₄a (label) ν₄b δ₄b (z₃ .1 .1 .1 .1 .1 .0) ν₄c δ₄c (z₃ .1 .1 .1 .1 .1 .1 .0) (x₃)) (and-then ! (load ! (from ! (stop !)) (look ! 80 refl)) (and-then ! (load ! (from ! (stop !)) (look ! 50 refl)) (and-then ! (load ! (from ! (stop !)) (look ! 22 refl)) (and-then ! (load ! (from ! (stop !)) (look ! 18 refl)) (and-then ! (load ! (from ! (stop !)) (look ! 14 refl)) (and-then ! (load ! (from ! (stop !)) (look ! 54 refl)) (no-more !))))))) (λ w₄.
-        use1 W (later (some (λ (x₄ : Answer). ((‵ (flft (ν₄a ∷ []) fullShare) ⊛ ‵ (flft (ν₄b ∷ []) fullShare) ⊛ ‵ (flft (ν₄c ∷ []) fullShare) ⊛ ‵ ftrue) ⊛ ‵ (N.the-row .own x₄ (w₄ ∷ []))) ⊛ raw (ensured 𝓤 H A finish.ended (finish.clauses 𝓤 H A mem run) (ν₄a ∷ [], (ν₄b ∷ [], (ν₄c ∷ [], tt))) ((n), ((length sources), (r₅ δ₄a (label), (r₆ δ₄b (z₃ .1 .1 .1 .1 .1 .0), (r₇ δ₄c (z₃ .1 .1 .1 .1 .1 .1 .0), ((x₃), tt)))))) tt x₄)))) (id⊢ 𝓤 _) $ await ! tt $ pick ! (λ x₄.
+        use1 W (raw (Finish 𝓤 H A mem run .pre (to-finish₄ (n) (length sources) ν₄a δ₄a (label) ν₄b δ₄b (z₃ .1 .1 .1 .1 .0) ν₄c δ₄c (z₃ .1 .1 .1 .1 .1 .0) (x₃)))) (goes-finish₄ (n) (length sources) ν₄a δ₄a (label) ν₄b δ₄b (z₃ .1 .1 .1 .1 .0) ν₄c δ₄c (z₃ .1 .1 .1 .1 .1 .0) (x₃) (is-n) (room₀ .0) (subst (Is O.the-row x₃) (LL.tells O.the-type O′.the-laws x₃ _ is₃) is₃) (driven-finish e₂ (begun-driven e₁ e₂ e₃))) $
+        calls-at ! fm (Finish 𝓤 H A mem run) known-finish (to-finish₄ (n) (length sources) ν₄a δ₄a (label) ν₄b δ₄b (z₃ .1 .1 .1 .1 .0) ν₄c δ₄c (z₃ .1 .1 .1 .1 .1 .0) (x₃)) (and-then ! (load ! (from ! (stop !)) (look ! 80 refl)) (and-then ! (load ! (from ! (stop !)) (look ! 48 refl)) (and-then ! (load ! (from ! (stop !)) (look ! 22 refl)) (and-then ! (load ! (from ! (stop !)) (look ! 18 refl)) (and-then ! (load ! (from ! (stop !)) (look ! 14 refl)) (and-then ! (load ! (from ! (stop !)) (look ! 54 refl)) (no-more !))))))) (λ w₄.
+        use1 W (later (some (λ (x₄ : Answer). ((‵ (flft (ν₄a ∷ []) fullShare) ⊛ ‵ (flft (ν₄b ∷ []) fullShare) ⊛ ‵ (flft (ν₄c ∷ []) fullShare) ⊛ ‵ ftrue) ⊛ ‵ (N.the-row .own x₄ (w₄ ∷ []))) ⊛ raw (ensured 𝓤 H A finish.ended (finish.clauses 𝓤 H A mem run) (ν₄a ∷ [], (ν₄b ∷ [], (ν₄c ∷ [], tt))) ((n), ((length sources), (r₅ δ₄a (label), (r₆ δ₄b (z₃ .1 .1 .1 .1 .0), (r₇ δ₄c (z₃ .1 .1 .1 .1 .1 .0), ((x₃), tt)))))) tt x₄)))) (id⊢ 𝓤 _) $ await ! tt $ pick ! (λ x₄.
         split ! $
         move ! (1 ∷ []) $
-        use1 W (some (λ (z₄ : Unit {0} × (Unit {0} × (List ℕ × (List ℕ × (List ℕ × (Unit {0} × Unit {0})))))). ‵ (lasts finish.ended (ν₄a ∷ [], (ν₄b ∷ [], (ν₄c ∷ [], tt))) ((n), ((length sources), (r₅ δ₄a (label), (r₆ δ₄b (z₃ .1 .1 .1 .1 .1 .0), (r₇ δ₄c (z₃ .1 .1 .1 .1 .1 .1 .0), ((x₃), tt)))))) z₄) ⊛ raw (fact 𝓤 (Ended (n) (length sources) (label) (z₃ .1 .1 .1 .1 .1 .0) (z₃ .1 .1 .1 .1 .1 .1 .0) (x₃) (z₄ .1 .1 .0) (z₄ .1 .1 .1 .0) (z₄ .1 .1 .1 .1 .0) x₄)))) (id⊢ 𝓤 _) $ pick ! (λ z₄.
+        use1 W (some (λ (z₄ : Unit {0} × (Unit {0} × (List ℕ × (List ℕ × (List ℕ × (Unit {0} × Unit {0})))))). ‵ (lasts finish.ended (ν₄a ∷ [], (ν₄b ∷ [], (ν₄c ∷ [], tt))) ((n), ((length sources), (r₅ δ₄a (label), (r₆ δ₄b (z₃ .1 .1 .1 .1 .0), (r₇ δ₄c (z₃ .1 .1 .1 .1 .1 .0), ((x₃), tt)))))) z₄) ⊛ raw (fact 𝓤 (Ended (n) (length sources) (label) (z₃ .1 .1 .1 .1 .0) (z₃ .1 .1 .1 .1 .1 .0) (x₃) (z₄ .1 .1 .0) (z₄ .1 .1 .1 .0) (z₄ .1 .1 .1 .1 .0) x₄)))) (id⊢ 𝓤 _) $ pick ! (λ z₄.
         split ! $
         move ! (1 ∷ []) $
-        heard ! (Ended (n) (length sources) (label) (z₃ .1 .1 .1 .1 .1 .0) (z₃ .1 .1 .1 .1 .1 .1 .0) (x₃) (z₄ .1 .1 .0) (z₄ .1 .1 .1 .0) (z₄ .1 .1 .1 .1 .0) x₄) (λ e₄.
+        heard ! (Ended (n) (length sources) (label) (z₃ .1 .1 .1 .1 .0) (z₃ .1 .1 .1 .1 .1 .0) (x₃) (z₄ .1 .1 .0) (z₄ .1 .1 .1 .0) (z₄ .1 .1 .1 .1 .0) x₄) (λ e₄.
         fsplit ! $
         drop ! $
         fsplit ! $
@@ -517,9 +504,9 @@ module _ {M : Type 1} (𝓤 : URA M) (H : Heap 𝓤) (A : Atoms 𝓤) (W : Given
         move ! (2 ∷ 5 ∷ 8 ∷ []) $
         back-at ! tt u32 (named 5) (named 0) κ₅ q₅ γ₅ b₅ o₅ (label) (z₄ .1 .1 .0) ν₄a δ₄a (length label) room₅ (refl) l₄a $
         move ! (3 ∷ 5 ∷ 7 ∷ []) $
-        back-at ! tt u32 (named 6) (named 1) κ₆ q₆ γ₆ b₆ o₆ (z₃ .1 .1 .1 .1 .1 .0) (z₄ .1 .1 .1 .0) ν₄b δ₄b (length numbers) room₆ (l₃e ∙ l₂d) l₄b $
+        back-at ! tt u32 (named 6) (named 1) κ₆ q₆ γ₆ b₆ o₆ (z₃ .1 .1 .1 .1 .0) (z₄ .1 .1 .1 .0) ν₄b δ₄b (length numbers) room₆ (l₃c ∙ l₂d) l₄b $
         move ! (4 ∷ 5 ∷ 6 ∷ []) $
-        back-at ! tt u64 (named 7) (named 2) κ₇ q₇ γ₇ b₇ o₇ (z₃ .1 .1 .1 .1 .1 .1 .0) (z₄ .1 .1 .1 .1 .0) ν₄c δ₄c (length words) room₇ (l₃f ∙ l₂e) l₄c $
+        back-at ! tt u64 (named 7) (named 2) κ₇ q₇ γ₇ b₇ o₇ (z₃ .1 .1 .1 .1 .1 .0) (z₄ .1 .1 .1 .1 .0) ν₄c δ₄c (length words) room₇ (l₃d ∙ l₂e) l₄c $
         returns ! (look ! 84 refl) $
         forget ! 84 refl $
         forget ! 82 refl $
@@ -627,8 +614,8 @@ module _ {M : Type 1} (𝓤 : URA M) (H : Heap 𝓤) (A : Atoms 𝓤) (W : Given
         move ! (16 ∷ 17 ∷ []) $
         free1 ! $
         free0 ! $
-        keep ! (13 ∷ 12 ∷ 8 ∷ 15 ∷ 6 ∷ 4 ∷ 2 ∷ 0 ∷ 11 ∷ 10 ∷ 9 ∷ 14 ∷ 7 ∷ 5 ∷ 3 ∷ 1 ∷ []) $
-        by ! (exits (x₄) (subst (Is N.the-row x₄) (EL.tells N.the-type N′.the-laws x₄ _ is₄) is₄) (z₃ .1 .1 .1 .0) (z₃ .1 .1 .1 .1 .0) (z₄ .1 .1 .0) (z₄ .1 .1 .1 .0) (z₄ .1 .1 .1 .1 .0) (l₃d) (l₄a) (l₄b ∙ l₃e ∙ l₂d) (l₄c ∙ l₃f ∙ l₂e) (promised e₁ e₂ e₃ e₄)))))))))))))))))))))))))))))))))))))))))))))))))))))))))))))))))))))))))))
+        keep ! (15 ∷ 14 ∷ 8 ∷ 13 ∷ 6 ∷ 4 ∷ 2 ∷ 0 ∷ 12 ∷ 11 ∷ 9 ∷ 10 ∷ 7 ∷ 5 ∷ 3 ∷ 1 ∷ []) $
+        by ! (exits (x₄) (subst (Is N.the-row x₄) (EL.tells N.the-type N′.the-laws x₄ _ is₄) is₄) (z₃ .1 .1 .0) (z₃ .1 .1 .1 .0) (z₄ .1 .1 .0) (z₄ .1 .1 .1 .0) (z₄ .1 .1 .1 .1 .0) (l₃b) (l₄a) (l₄b ∙ l₃c ∙ l₂d) (l₄c ∙ l₃d ∙ l₂e) (promised e₁ e₂ (begun-driven e₁ e₂ e₃) e₄)))))))))))))))))))))))))))))))))))))))))))))))))))))))))))))))))))))))))))
 
 module _ {M : Type 1} (𝓤 : URA M) (H : Heap 𝓤) (A : Atoms 𝓤) (W : Given 𝓤 H A) (mem : Memory → SProp 𝓤) (run : Routine → Fun 𝓤) where
   decompose-walks : (C : Calls 𝓤 H) (Λ : Loops 𝓤 H) → FmC 𝓤 H (W .laws) C → Triple 𝓤 (C #pivot·chooser·copy) (Copy 𝓤 H A mem run) → Triple 𝓤 (C #decompose·begin·begin) (Begin 𝓤 H A mem run) → Triple 𝓤 (C #decompose·turns·drive) (Drive 𝓤 H A mem run) → Triple 𝓤 (C #decompose·finish·finish) (Finish 𝓤 H A mem run) → Walks 𝓤 H A f.ended stayed (WpFn 𝓤 H C Λ code.function) (f.clauses 𝓤 H A mem run)

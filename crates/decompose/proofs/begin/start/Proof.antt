@@ -1,5 +1,6 @@
 use mathlib.Core.Path.{refl}
 use native.Mathlib.Omega.{arith}
+use Rattle.graph.specs.Graph.{graph}
 use Rattle.index.proofs.Asks.{valid-both}
 use Rattle.decompose.specs.Begin.{listOf}
 use Rattle.decompose.proofs.Starting.{filled-put, started}
@@ -97,7 +98,7 @@ returns c =
     let at-arrange = at-fill .before .before .before .before in
     let at-both = at-arrange .before .before .before .before in
     let start = at-both .before .before .before .before .before .before .before in
-    started (start .args .n) (start .args .sources .now) (start .args .targets .now) (listOf (start .args .kind) (start .args .list .now)) (start .pre) (at-both .both .ensures) (at-arrange .arrange .ensures) (filled-put (at-fill .fill .ensures)) (at-number .number .ensures) (filled-put (at-fill2 .fill2 .ensures)) (filled-put (at-fill3 .fill3 .ensures)) (rw (at-words-needed .words-needed .ensures) at (at-zero-words .zero-words .ensures)) (start .args .kind) (start .args .list .now) refl
+    started (graph (start .args .n) (start .args .sources .now) (start .args .targets .now)) (listOf (start .args .kind) (start .args .list .now)) (start .pre) (at-both .both .ensures) (at-arrange .arrange .ensures) (filled-put (at-fill .fill .ensures)) (at-number .number .ensures) (filled-put (at-fill2 .fill2 .ensures)) (filled-put (at-fill3 .fill3 .ensures)) (rw (at-words-needed .words-needed .ensures) at (at-zero-words .zero-words .ensures)) (start .args .kind) (start .args .list .now) refl
 
 pub start-spec : {M : Type 1} → statement M
 start-spec =

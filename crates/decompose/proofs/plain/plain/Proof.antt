@@ -38,6 +38,8 @@ use denote.Triple.Table.{entered, cited}
 use denote.Triple.Walked.{says, Stays, stay-slice, stay-none, stay-none-slice, walkOf, goes-slice, goes-none, goes-none-slice, Walks, ends-at, walked, walk-meets}
 use denote.Exit.{yes}
 use denote.Signature.{plain}
+use Rattle.graph.specs.Graph.{graph}
+use Rattle.graph.specs.Arrows.{arrows, SomeOf, EveryOf}
 use Rattle.waiting.specs.declared.Part.{Part}
 use Rattle.waiting.specs.Records.{none}
 use Rattle.waiting.proofs.Part as P
@@ -61,7 +63,7 @@ use Rattle.decompose.specs.Plain.{still, PlainBegun, Plainly}
 use Rattle.decompose.specs.Turns.{DriveAsk, Driven}
 use Rattle.decompose.specs.Finish.{FinishAsk, Ended}
 use Rattle.decompose.proofs.Own as own
-use Rattle.decompose.proofs.Promising.{plain-drive, plain-finish, plainly}
+use Rattle.decompose.proofs.Promising.{plain-drive, plain-driven, plain-finish, plainly}
 use Rattle.decompose.proofs.finish.Answer as N
 use Rattle.decompose.proofs.finish.Answer.Laws as N′
 use Rattle.decompose.proofs.plain.prepare as prepare
@@ -173,8 +175,8 @@ module _ {M : Type 1} (𝓤 : URA M) (H : Heap 𝓤) (A : Atoms 𝓤) (W : Given
   abbrev to-fresh : Fresh 𝓤 H A mem run .Ghost
   to-fresh = ((tt, tt, tt, tt, tt), tt)
 
-  abbrev to-drive₂ : ℕ → ℕ → ℕ → GName → Chooser → ℕ → ℕ → GName → List Part → ℕ → GName → List ℕ → ℕ → GName → List ℕ → Machine → Drive 𝓤 H A mem run .Ghost
-  to-drive₂ m-n p-chooser νc δc vc p-parts νd δd vd νe δe ve νf δf vf m-begun = (((κ₀, (κ₁, (νc ∷ [], (νd ∷ [], (νe ∷ [], (νf ∷ [], tt)))))), (q₀, (q₁, (fullShare, (fullShare, (fullShare, (fullShare, tt)))))), tt, (m-n, (r₀ γ₀ (sources), (r₁ γ₁ (targets), (record { ptr = (p-chooser, 0); name = δc; now = vc }, (record { ptr = (p-parts, 0); name = δd; now = vd }, (r₃ δe (ve), (r₄ δf (vf), (m-begun, tt)))))))), (vint w64 m-n ∷ [], (s₀ ∷ [], (s₁ ∷ [], (vptr p-chooser 0 ∷ [], (sliceVal (p-parts, 0) 512 ∷ [], (s₃ ∷ [], (s₄ ∷ [], (O′.lowered m-begun ∷ [], tt))))))))), tt)
+  abbrev to-drive₂ : ℕ → ℕ → ℕ → ℕ → GName → Chooser → ℕ → ℕ → GName → List Part → ℕ → GName → List ℕ → ℕ → GName → List ℕ → Machine → Drive 𝓤 H A mem run .Ghost
+  to-drive₂ m-n m-m p-chooser νa δa va p-parts νb δb vb νc δc vc νd δd vd m-begun = (((νa ∷ [], (νb ∷ [], (νc ∷ [], (νd ∷ [], tt)))), (fullShare, (fullShare, (fullShare, (fullShare, tt)))), tt, (m-n, (m-m, (record { ptr = (p-chooser, 0); name = δa; now = va }, (record { ptr = (p-parts, 0); name = δb; now = vb }, (r₃ δc (vc), (r₄ δd (vd), (m-begun, tt))))))), (vint w64 m-n ∷ [], (vint w64 m-m ∷ [], (vptr p-chooser 0 ∷ [], (sliceVal (p-parts, 0) 512 ∷ [], (s₃ ∷ [], (s₄ ∷ [], (O′.lowered m-begun ∷ [], tt)))))))), tt)
 
   abbrev to-finish₃ : ℕ → ℕ → ℕ → GName → List ℕ → ℕ → GName → List ℕ → ℕ → GName → List ℕ → Machine → Finish 𝓤 H A mem run .Ghost
   to-finish₃ m-n m-edges νa δa va νb δb vb νc δc vc m-s = (((νa ∷ [], (νb ∷ [], (νc ∷ [], tt))), (fullShare, (fullShare, (fullShare, tt))), tt, (m-n, (m-edges, (r₂ δa (va), (r₃ δb (vb), (r₄ δc (vc), (m-s, tt)))))), (vint w64 m-n ∷ [], (vint w64 m-edges ∷ [], (s₂ ∷ [], (s₃ ∷ [], (s₄ ∷ [], (O′.lowered m-s ∷ [], tt))))))), tt)
@@ -190,10 +192,10 @@ module _ {M : Type 1} (𝓤 : URA M) (H : Heap 𝓤) (A : Atoms 𝓤) (W : Given
   got-of : (xs : List Part) → ent 𝓤 (ensured 𝓤 H A fresh.ended (fresh.clauses 𝓤 H A mem run) tt tt tt xs) (fact 𝓤 (xs ≡ replicate 512 none))
   got-of xs = exE 𝓤 _ (λ ws. snd∗ 𝓤 (sem 𝓤 H A (lasts fresh.ended tt tt ws)) (fact 𝓤 (xs ≡ replicate 512 none)))
 
-  goes-drive₂ : (m-n : ℕ) (p-chooser : ℕ) (νc : ℕ) (δc : GName) (vc : Chooser) (p-parts : ℕ) (νd : ℕ) (δd : GName) (vd : List Part) (νe : ℕ) (δe : GName) (ve : List ℕ) (νf : ℕ) (δf : GName) (vf : List ℕ) (m-begun : Machine) (h-n : m-n < 2 ^ 64) (h-begun : Is O.the-row m-begun (O′.lowered m-begun ∷ [])) (h· : DriveAsk m-n sources targets vc vd ve vf m-begun) → ent 𝓤 (sep 𝓤 ((sep 𝓤 ((sep 𝓤 ((sep 𝓤 ((sep 𝓤 ((sep 𝓤 ((sep 𝓤 ((sep 𝓤 ((sep 𝓤 ((sep 𝓤 ((sep 𝓤 (A .lft κ₀ q₀) (A .lft κ₁ q₁))) (A .lft (νc ∷ []) fullShare))) (A .lft (νd ∷ []) fullShare))) (A .lft (νe ∷ []) fullShare))) (A .lft (νf ∷ []) fullShare))) (sem 𝓤 H A (ShrSlice (named 0) κ₀ u32 .own (r₀ γ₀ (sources)) (s₀ ∷ []))))) (sem 𝓤 H A (ShrSlice (named 1) κ₁ u32 .own (r₁ γ₁ (targets)) (s₁ ∷ []))))) (sem 𝓤 H A (MutRef (named 2) (νc ∷ []) K.the-row .own (record { ptr = (p-chooser, 0); name = δc; now = vc }) (vptr p-chooser 0 ∷ []))))) (sem 𝓤 H A (MutSlice (named 3) (νd ∷ []) P.the-row .own (record { ptr = (p-parts, 0); name = δd; now = vd }) (sliceVal (p-parts, 0) 512 ∷ []))))) (sem 𝓤 H A (MutSlice (named 4) (νe ∷ []) u32 .own (r₃ δe (ve)) (s₃ ∷ []))))) (sem 𝓤 H A (MutSlice (named 5) (νf ∷ []) u64 .own (r₄ δf (vf)) (s₄ ∷ [])))) (Drive 𝓤 H A mem run .pre (to-drive₂ m-n p-chooser νc δc vc p-parts νd δd vd νe δe ve νf δf vf m-begun))
-  goes-drive₂ m-n p-chooser νc δc vc p-parts νd δd vd νe δe ve νf δf vf m-begun h-n h-begun h· =
-      qed W ((((((((((((‵ (flft κ₀ q₀) ⊛ ‵ (flft κ₁ q₁)) ⊛ ‵ (flft (νc ∷ []) fullShare)) ⊛ ‵ (flft (νd ∷ []) fullShare)) ⊛ ‵ (flft (νe ∷ []) fullShare)) ⊛ ‵ (flft (νf ∷ []) fullShare)) ⊛ ‵ (ShrSlice (named 0) κ₀ u32 .own (r₀ γ₀ (sources)) (s₀ ∷ []))) ⊛ ‵ (ShrSlice (named 1) κ₁ u32 .own (r₁ γ₁ (targets)) (s₁ ∷ []))) ⊛ ‵ (MutRef (named 2) (νc ∷ []) K.the-row .own (record { ptr = (p-chooser, 0); name = δc; now = vc }) (vptr p-chooser 0 ∷ []))) ⊛ ‵ (MutSlice (named 3) (νd ∷ []) P.the-row .own (record { ptr = (p-parts, 0); name = δd; now = vd }) (sliceVal (p-parts, 0) 512 ∷ []))) ⊛ ‵ (MutSlice (named 4) (νe ∷ []) u32 .own (r₃ δe (ve)) (s₃ ∷ []))) ⊛ ‵ (MutSlice (named 5) (νf ∷ []) u64 .own (r₄ δf (vf)) (s₄ ∷ []))) ∷ []) ∵
-      says ! h· $ split ! $ split ! $ split ! $ split ! $ split ! $ split ! $ split ! $ split ! $ split ! $ split ! $ split ! $ nothing ! $ move ! (6 ∷ 0 ∷ []) $ join ! $ move ! (5 ∷ 0 ∷ []) $ join ! $ move ! (4 ∷ 0 ∷ []) $ join ! $ move ! (3 ∷ 0 ∷ []) $ join ! $ move ! (2 ∷ 0 ∷ []) $ join ! $ move ! (1 ∷ 0 ∷ []) $ join ! $ frame ! $ nothing ! $ owned ! O.the-row (Is O.the-row) (LL.makes O.the-type O′.the-plain 𝓤 H A) m-begun _ (h-begun) $ fjoin ! $ move ! (6 ∷ 0 ∷ []) $ fjoin ! $ move ! (5 ∷ 0 ∷ []) $ fjoin ! $ move ! (4 ∷ 0 ∷ []) $ fjoin ! $ move ! (3 ∷ 0 ∷ []) $ fjoin ! $ move ! (2 ∷ 0 ∷ []) $ fjoin ! $ move ! (1 ∷ 0 ∷ []) $ fjoin ! $ owned ! usize (Is usize) (uint-makes 𝓤 H A W w64) m-n _ (refl, h-n) $ fjoin ! $ done !
+  goes-drive₂ : (m-n : ℕ) (m-m : ℕ) (p-chooser : ℕ) (νa : ℕ) (δa : GName) (va : Chooser) (p-parts : ℕ) (νb : ℕ) (δb : GName) (vb : List Part) (νc : ℕ) (δc : GName) (vc : List ℕ) (νd : ℕ) (δd : GName) (vd : List ℕ) (m-begun : Machine) (h-n : m-n < 2 ^ 64) (h-m : m-m < 2 ^ 64) (h-begun : Is O.the-row m-begun (O′.lowered m-begun ∷ [])) (h· : SomeOf m-n m-m (λ g. DriveAsk g va vb vc vd m-begun)) → ent 𝓤 (sep 𝓤 ((sep 𝓤 ((sep 𝓤 ((sep 𝓤 ((sep 𝓤 ((sep 𝓤 ((sep 𝓤 (A .lft (νa ∷ []) fullShare) (A .lft (νb ∷ []) fullShare))) (A .lft (νc ∷ []) fullShare))) (A .lft (νd ∷ []) fullShare))) (sem 𝓤 H A (MutRef (named 0) (νa ∷ []) K.the-row .own (record { ptr = (p-chooser, 0); name = δa; now = va }) (vptr p-chooser 0 ∷ []))))) (sem 𝓤 H A (MutSlice (named 1) (νb ∷ []) P.the-row .own (record { ptr = (p-parts, 0); name = δb; now = vb }) (sliceVal (p-parts, 0) 512 ∷ []))))) (sem 𝓤 H A (MutSlice (named 2) (νc ∷ []) u32 .own (r₃ δc (vc)) (s₃ ∷ []))))) (sem 𝓤 H A (MutSlice (named 3) (νd ∷ []) u64 .own (r₄ δd (vd)) (s₄ ∷ [])))) (Drive 𝓤 H A mem run .pre (to-drive₂ m-n m-m p-chooser νa δa va p-parts νb δb vb νc δc vc νd δd vd m-begun))
+  goes-drive₂ m-n m-m p-chooser νa δa va p-parts νb δb vb νc δc vc νd δd vd m-begun h-n h-m h-begun h· =
+      qed W ((((((((‵ (flft (νa ∷ []) fullShare) ⊛ ‵ (flft (νb ∷ []) fullShare)) ⊛ ‵ (flft (νc ∷ []) fullShare)) ⊛ ‵ (flft (νd ∷ []) fullShare)) ⊛ ‵ (MutRef (named 0) (νa ∷ []) K.the-row .own (record { ptr = (p-chooser, 0); name = δa; now = va }) (vptr p-chooser 0 ∷ []))) ⊛ ‵ (MutSlice (named 1) (νb ∷ []) P.the-row .own (record { ptr = (p-parts, 0); name = δb; now = vb }) (sliceVal (p-parts, 0) 512 ∷ []))) ⊛ ‵ (MutSlice (named 2) (νc ∷ []) u32 .own (r₃ δc (vc)) (s₃ ∷ []))) ⊛ ‵ (MutSlice (named 3) (νd ∷ []) u64 .own (r₄ δd (vd)) (s₄ ∷ []))) ∷ []) ∵
+      says ! h· $ split ! $ split ! $ split ! $ split ! $ split ! $ split ! $ split ! $ nothing ! $ move ! (4 ∷ 0 ∷ []) $ join ! $ move ! (3 ∷ 0 ∷ []) $ join ! $ move ! (2 ∷ 0 ∷ []) $ join ! $ move ! (1 ∷ 0 ∷ []) $ join ! $ frame ! $ nothing ! $ owned ! O.the-row (Is O.the-row) (LL.makes O.the-type O′.the-plain 𝓤 H A) m-begun _ (h-begun) $ fjoin ! $ move ! (4 ∷ 0 ∷ []) $ fjoin ! $ move ! (3 ∷ 0 ∷ []) $ fjoin ! $ move ! (2 ∷ 0 ∷ []) $ fjoin ! $ move ! (1 ∷ 0 ∷ []) $ fjoin ! $ owned ! usize (Is usize) (uint-makes 𝓤 H A W w64) m-m _ (refl, h-m) $ fjoin ! $ owned ! usize (Is usize) (uint-makes 𝓤 H A W w64) m-n _ (refl, h-n) $ fjoin ! $ done !
 
   goes-finish₃ : (m-n : ℕ) (m-edges : ℕ) (νa : ℕ) (δa : GName) (va : List ℕ) (νb : ℕ) (δb : GName) (vb : List ℕ) (νc : ℕ) (δc : GName) (vc : List ℕ) (m-s : Machine) (h-n : m-n < 2 ^ 64) (h-edges : m-edges < 2 ^ 64) (h-s : Is O.the-row m-s (O′.lowered m-s ∷ [])) (h· : FinishAsk m-n m-edges va vb vc m-s) → ent 𝓤 (sep 𝓤 ((sep 𝓤 ((sep 𝓤 ((sep 𝓤 ((sep 𝓤 (A .lft (νa ∷ []) fullShare) (A .lft (νb ∷ []) fullShare))) (A .lft (νc ∷ []) fullShare))) (sem 𝓤 H A (MutSlice (named 0) (νa ∷ []) u32 .own (r₂ δa (va)) (s₂ ∷ []))))) (sem 𝓤 H A (MutSlice (named 1) (νb ∷ []) u32 .own (r₃ δb (vb)) (s₃ ∷ []))))) (sem 𝓤 H A (MutSlice (named 2) (νc ∷ []) u64 .own (r₄ δc (vc)) (s₄ ∷ [])))) (Finish 𝓤 H A mem run .pre (to-finish₃ m-n m-edges νa δa va νb δb vb νc δc vc m-s))
   goes-finish₃ m-n m-edges νa δa va νb δb vb νc δc vc m-s h-n h-edges h-s h· =
@@ -318,6 +320,7 @@ module _ {M : Type 1} (𝓤 : URA M) (H : Heap 𝓤) (A : Atoms 𝓤) (W : Given
         -- the chooser
         assigns ! (agg ! (and-then ! (lit ! tt) (and-then ! (lit ! tt) (no-more !)))) (from ! (stop !)) (init ! 51 refl (LL.lawful K.the-type K′.the-laws 𝓤 H A W .typed still _ is-still .0)) $
         -- drive
+        assigns ! (of-opd ! (load ! (from ! (fld ! refl (stop !))) (look-in ! 65 (sub ! 1 refl (whole !))))) (from ! (stop !)) (store ! 47 refl (tt, record { fits = room₀ .0 })) $
         assigns ! (addr ! (from ! (stop !))) (from ! (stop !)) (init ! 35 refl (tt, tt)) $
         assigns ! (addr ! (from ! (stop !))) (from ! (stop !)) (init ! 33 refl (tt, tt)) $
         assigns ! (agg ! (and-then ! (load ! (from ! (stop !)) (look ! 33 refl)) (and-then ! (lit ! tt) (no-more !)))) (from ! (stop !)) (init ! 31 refl (tt, (tt, (record { fits = lit< tt }, tt)))) $
@@ -325,27 +328,21 @@ module _ {M : Type 1} (𝓤 : URA M) (H : Heap 𝓤) (A : Atoms 𝓤) (W : Given
         assigns ! (agg ! (and-then ! (load ! (from ! (stop !)) (look ! 29 refl)) (and-then ! (load ! (from ! (fld ! refl (stop !))) (look-in ! 59 (sub ! 1 refl (whole !)))) (no-more !)))) (from ! (stop !)) (init ! 27 refl (tt, (tt, (record { fits = room₃ .0 }, tt)))) $
         assigns ! (addr ! (from ! (fld ! refl (hop ! (look-in ! 57 (sub ! 0 refl (whole !))) (stop !))))) (from ! (stop !)) (init ! 25 refl (tt, tt)) $
         assigns ! (agg ! (and-then ! (load ! (from ! (stop !)) (look ! 25 refl)) (and-then ! (load ! (from ! (fld ! refl (stop !))) (look-in ! 57 (sub ! 1 refl (whole !)))) (no-more !)))) (from ! (stop !)) (init ! 23 refl (tt, (tt, (record { fits = room₄ .0 }, tt)))) $
-        move ! (8 ∷ []) $
-        use1 W (‵ (ShrSlice (named 0) κ₀ u32 .own (r₀ γ₀ (sources)) (s₀ ∷ [])) ⊛ ‵ (ShrSlice (named 0) κ₀ u32 .own (r₀ γ₀ (sources)) (s₀ ∷ []))) (shr-slice-copy 𝓤 H A W (named 0) κ₀ u32 .twice (r₀ γ₀ (sources)) (s₀ ∷ [])) $
-        split ! $
-        move ! (9 ∷ []) $
-        use1 W (‵ (ShrSlice (named 1) κ₁ u32 .own (r₁ γ₁ (targets)) (s₁ ∷ [])) ⊛ ‵ (ShrSlice (named 1) κ₁ u32 .own (r₁ γ₁ (targets)) (s₁ ∷ []))) (shr-slice-copy 𝓤 H A W (named 1) κ₁ u32 .twice (r₁ γ₁ (targets)) (s₁ ∷ [])) $
-        split ! $
         owned ! K.the-row (Is K.the-row) (LL.makes K.the-type K′.the-plain 𝓤 H A) still _ is-still $
-        move ! (54 ∷ 0 ∷ []) $
+        move ! (52 ∷ 0 ∷ []) $
         use2 W (‵ (mem′ K.the-row .lies still l₉ 0)) (own.one-apart 𝓤 H A W still (K′.lowered still) l₉) $
-        lft-new ! tt (λ ν₂c. move ! (1 ∷ []) $
-        use1 W (later (some (λ (δ₂c : GName). ‵ (MutRef (named 2) (ν₂c ∷ []) K.the-row .own (record { ptr = (l₉, 0); name = δ₂c; now = still }) (vptr l₉ 0 ∷ [])) ⊛ ‵ (flent (ν₂c ∷ []) (Body (mem′ K.the-row) l₉ 0 δ₂c))))) (lends-ref 𝓤 H A W K.the-row (named 2) (ν₂c ∷ []) still l₉ 0) $ await ! tt $ pick ! (λ δ₂c. split ! $
-        move ! (57 ∷ 7 ∷ []) $
+        lft-new ! tt (λ ν₂a. move ! (1 ∷ []) $
+        use1 W (later (some (λ (δ₂a : GName). ‵ (MutRef (named 0) (ν₂a ∷ []) K.the-row .own (record { ptr = (l₉, 0); name = δ₂a; now = still }) (vptr l₉ 0 ∷ [])) ⊛ ‵ (flent (ν₂a ∷ []) (Body (mem′ K.the-row) l₉ 0 δ₂a))))) (lends-ref 𝓤 H A W K.the-row (named 0) (ν₂a ∷ []) still l₉ 0) $ await ! tt $ pick ! (λ δ₂a. split ! $
+        move ! (55 ∷ 3 ∷ []) $
         use2 W (‵ (cells (mem′ P.the-row) xs l₈ 0)) (own.apart 𝓤 H A W P.the-row 512 tt xs wf l₈) $
-        lft-new ! tt (λ ν₂d. move ! (1 ∷ []) $
-        use1 W (later (some (λ (δ₂d : GName). ‵ (MutSlice (named 3) (ν₂d ∷ []) P.the-row .own (record { ptr = (l₈, 0); name = δ₂d; now = xs }) (sliceVal (l₈, 0) (length xs) ∷ [])) ⊛ ‵ (flent (ν₂d ∷ []) (Held P.the-row (length xs) l₈ 0 δ₂d))))) (lends-slice 𝓤 H A W P.the-row (named 3) (ν₂d ∷ []) xs l₈ 0 (subst (Room P.the-row) (sym (is-long ex)) room-512)) $ await ! tt $ pick ! (λ δ₂d. split ! $
-        rewrite ! 0 (λ (m : ℕ). ‵ (MutSlice (named 3) (ν₂d ∷ []) P.the-row .own (record { ptr = (l₈, 0); name = δ₂d; now = xs }) (sliceVal (l₈, 0) m ∷ []))) (is-long ex) refl $
-        move ! (12 ∷ 13 ∷ []) $
-        lend-at ! tt u32 (named 3) (named 4) κ₃ q₃ γ₃ b₃ o₃ (z₁ .1 .1 .1 .1 .0) (length numbers) (l₁c) (λ ν₂e δ₂e.
-        move ! (13 ∷ 14 ∷ []) $
-        lend-at ! tt u64 (named 4) (named 5) κ₄ q₄ γ₄ b₄ o₄ (z₁ .1 .1 .1 .1 .1 .0) (length words) (l₁d) (λ ν₂f δ₂f.
-        move ! (17 ∷ 16 ∷ 11 ∷ 8 ∷ 3 ∷ 0 ∷ 14 ∷ 12 ∷ 9 ∷ 6 ∷ 4 ∷ 1 ∷ []) $
+        lft-new ! tt (λ ν₂b. move ! (1 ∷ []) $
+        use1 W (later (some (λ (δ₂b : GName). ‵ (MutSlice (named 1) (ν₂b ∷ []) P.the-row .own (record { ptr = (l₈, 0); name = δ₂b; now = xs }) (sliceVal (l₈, 0) (length xs) ∷ [])) ⊛ ‵ (flent (ν₂b ∷ []) (Held P.the-row (length xs) l₈ 0 δ₂b))))) (lends-slice 𝓤 H A W P.the-row (named 1) (ν₂b ∷ []) xs l₈ 0 (subst (Room P.the-row) (sym (is-long ex)) room-512)) $ await ! tt $ pick ! (λ δ₂b. split ! $
+        rewrite ! 0 (λ (m : ℕ). ‵ (MutSlice (named 1) (ν₂b ∷ []) P.the-row .own (record { ptr = (l₈, 0); name = δ₂b; now = xs }) (sliceVal (l₈, 0) m ∷ []))) (is-long ex) refl $
+        move ! (8 ∷ 9 ∷ []) $
+        lend-at ! tt u32 (named 3) (named 2) κ₃ q₃ γ₃ b₃ o₃ (z₁ .1 .1 .1 .1 .0) (length numbers) (l₁c) (λ ν₂c δ₂c.
+        move ! (9 ∷ 10 ∷ []) $
+        lend-at ! tt u64 (named 4) (named 3) κ₄ q₄ γ₄ b₄ o₄ (z₁ .1 .1 .1 .1 .1 .0) (length words) (l₁d) (λ ν₂d δ₂d.
+        move ! (11 ∷ 8 ∷ 3 ∷ 0 ∷ 9 ∷ 6 ∷ 4 ∷ 1 ∷ []) $
         join ! $
         join ! $
         join ! $
@@ -353,53 +350,43 @@ module _ {M : Type 1} (𝓤 : URA M) (H : Heap 𝓤) (A : Atoms 𝓤) (W : Given
         join ! $
         join ! $
         join ! $
-        join ! $
-        join ! $
-        join ! $
-        join ! $
-        use1 W (raw (Drive 𝓤 H A mem run .pre (to-drive₂ (n) l₉ ν₂c δ₂c (still) l₈ ν₂d δ₂d (xs) ν₂e δ₂e (z₁ .1 .1 .1 .1 .0) ν₂f δ₂f (z₁ .1 .1 .1 .1 .1 .0) (x₁)))) (goes-drive₂ (n) l₉ ν₂c δ₂c (still) l₈ ν₂d δ₂d (xs) ν₂e δ₂e (z₁ .1 .1 .1 .1 .0) ν₂f δ₂f (z₁ .1 .1 .1 .1 .1 .0) (x₁) (is-n) (subst (Is O.the-row x₁) (LL.tells O.the-type O′.the-laws x₁ _ is₁) is₁) (subst (λ (l : List Part). DriveAsk n sources targets still l (z₁ .1 .1 .1 .1 .0) (z₁ .1 .1 .1 .1 .1 .0) x₁) (sym ex) (plain-drive e₁))) $
-        calls-at ! fm (Drive 𝓤 H A mem run) known-drive (to-drive₂ (n) l₉ ν₂c δ₂c (still) l₈ ν₂d δ₂d (xs) ν₂e δ₂e (z₁ .1 .1 .1 .1 .0) ν₂f δ₂f (z₁ .1 .1 .1 .1 .1 .0) (x₁)) (and-then ! (load ! (from ! (stop !)) (look ! 63 refl)) (and-then ! (load ! (from ! (stop !)) (look ! 61 refl)) (and-then ! (load ! (from ! (stop !)) (look ! 59 refl)) (and-then ! (load ! (from ! (stop !)) (look ! 33 refl)) (and-then ! (load ! (from ! (stop !)) (look ! 29 refl)) (and-then ! (load ! (from ! (stop !)) (look ! 25 refl)) (and-then ! (load ! (from ! (stop !)) (look ! 21 refl)) (and-then ! (load ! (from ! (stop !)) (look ! 51 refl)) (no-more !))))))))) (λ w₂.
-        use1 W (later (some (λ (x₂ : Machine). ((‵ (flft κ₀ q₀) ⊛ ‵ (flft κ₁ q₁) ⊛ ‵ (flft (ν₂c ∷ []) fullShare) ⊛ ‵ (flft (ν₂d ∷ []) fullShare) ⊛ ‵ (flft (ν₂e ∷ []) fullShare) ⊛ ‵ (flft (ν₂f ∷ []) fullShare) ⊛ ‵ ftrue) ⊛ ‵ (O.the-row .own x₂ (w₂ ∷ []))) ⊛ raw (ensured 𝓤 H A drive.ended (drive.clauses 𝓤 H A mem run) (κ₀, (κ₁, (ν₂c ∷ [], (ν₂d ∷ [], (ν₂e ∷ [], (ν₂f ∷ [], tt)))))) ((n), (r₀ γ₀ (sources), (r₁ γ₁ (targets), (record { ptr = (l₉, 0); name = δ₂c; now = still }, (record { ptr = (l₈, 0); name = δ₂d; now = xs }, (r₃ δ₂e (z₁ .1 .1 .1 .1 .0), (r₄ δ₂f (z₁ .1 .1 .1 .1 .1 .0), ((x₁), tt)))))))) tt x₂)))) (id⊢ 𝓤 _) $ await ! tt $ pick ! (λ x₂.
+        use1 W (raw (Drive 𝓤 H A mem run .pre (to-drive₂ (n) (length sources) l₉ ν₂a δ₂a (still) l₈ ν₂b δ₂b (xs) ν₂c δ₂c (z₁ .1 .1 .1 .1 .0) ν₂d δ₂d (z₁ .1 .1 .1 .1 .1 .0) (x₁)))) (goes-drive₂ (n) (length sources) l₉ ν₂a δ₂a (still) l₈ ν₂b δ₂b (xs) ν₂c δ₂c (z₁ .1 .1 .1 .1 .0) ν₂d δ₂d (z₁ .1 .1 .1 .1 .1 .0) (x₁) (is-n) (room₀ .0) (subst (Is O.the-row x₁) (LL.tells O.the-type O′.the-laws x₁ _ is₁) is₁) (arrows (graph n sources targets), plain-drive ex e₁)) $
+        calls-at ! fm (Drive 𝓤 H A mem run) known-drive (to-drive₂ (n) (length sources) l₉ ν₂a δ₂a (still) l₈ ν₂b δ₂b (xs) ν₂c δ₂c (z₁ .1 .1 .1 .1 .0) ν₂d δ₂d (z₁ .1 .1 .1 .1 .1 .0) (x₁)) (and-then ! (load ! (from ! (stop !)) (look ! 65 refl)) (and-then ! (load ! (from ! (stop !)) (look ! 47 refl)) (and-then ! (load ! (from ! (stop !)) (look ! 35 refl)) (and-then ! (load ! (from ! (stop !)) (look ! 31 refl)) (and-then ! (load ! (from ! (stop !)) (look ! 27 refl)) (and-then ! (load ! (from ! (stop !)) (look ! 23 refl)) (and-then ! (load ! (from ! (stop !)) (look ! 53 refl)) (no-more !)))))))) (λ w₂.
+        use1 W (later (some (λ (x₂ : Machine). ((‵ (flft (ν₂a ∷ []) fullShare) ⊛ ‵ (flft (ν₂b ∷ []) fullShare) ⊛ ‵ (flft (ν₂c ∷ []) fullShare) ⊛ ‵ (flft (ν₂d ∷ []) fullShare) ⊛ ‵ ftrue) ⊛ ‵ (O.the-row .own x₂ (w₂ ∷ []))) ⊛ raw (ensured 𝓤 H A drive.ended (drive.clauses 𝓤 H A mem run) (ν₂a ∷ [], (ν₂b ∷ [], (ν₂c ∷ [], (ν₂d ∷ [], tt)))) ((n), ((length sources), (record { ptr = (l₉, 0); name = δ₂a; now = still }, (record { ptr = (l₈, 0); name = δ₂b; now = xs }, (r₃ δ₂c (z₁ .1 .1 .1 .1 .0), (r₄ δ₂d (z₁ .1 .1 .1 .1 .1 .0), ((x₁), tt))))))) tt x₂)))) (id⊢ 𝓤 _) $ await ! tt $ pick ! (λ x₂.
         split ! $
         move ! (1 ∷ []) $
-        use1 W (some (λ (z₂ : Unit {0} × (Unit {0} × (Unit {0} × (Chooser × (List Part × (List ℕ × (List ℕ × (Unit {0} × Unit {0})))))))). ‵ (lasts drive.ended (κ₀, (κ₁, (ν₂c ∷ [], (ν₂d ∷ [], (ν₂e ∷ [], (ν₂f ∷ [], tt)))))) ((n), (r₀ γ₀ (sources), (r₁ γ₁ (targets), (record { ptr = (l₉, 0); name = δ₂c; now = still }, (record { ptr = (l₈, 0); name = δ₂d; now = xs }, (r₃ δ₂e (z₁ .1 .1 .1 .1 .0), (r₄ δ₂f (z₁ .1 .1 .1 .1 .1 .0), ((x₁), tt)))))))) z₂) ⊛ raw (fact 𝓤 (Driven (n) sources targets (still) (xs) (z₁ .1 .1 .1 .1 .0) (z₁ .1 .1 .1 .1 .1 .0) (x₁) (z₂ .1 .1 .1 .0) (z₂ .1 .1 .1 .1 .0) (z₂ .1 .1 .1 .1 .1 .0) (z₂ .1 .1 .1 .1 .1 .1 .0) x₂)))) (id⊢ 𝓤 _) $ pick ! (λ z₂.
+        use1 W (some (λ (z₂ : Unit {0} × (Unit {0} × (Chooser × (List Part × (List ℕ × (List ℕ × (Unit {0} × Unit {0}))))))). ‵ (lasts drive.ended (ν₂a ∷ [], (ν₂b ∷ [], (ν₂c ∷ [], (ν₂d ∷ [], tt)))) ((n), ((length sources), (record { ptr = (l₉, 0); name = δ₂a; now = still }, (record { ptr = (l₈, 0); name = δ₂b; now = xs }, (r₃ δ₂c (z₁ .1 .1 .1 .1 .0), (r₄ δ₂d (z₁ .1 .1 .1 .1 .1 .0), ((x₁), tt))))))) z₂) ⊛ raw (fact 𝓤 (EveryOf (n) (length sources) (λ g. DriveAsk g (still) (xs) (z₁ .1 .1 .1 .1 .0) (z₁ .1 .1 .1 .1 .1 .0) (x₁) → Driven g (still) (xs) (z₁ .1 .1 .1 .1 .0) (z₁ .1 .1 .1 .1 .1 .0) (x₁) (z₂ .1 .1 .0) (z₂ .1 .1 .1 .0) (z₂ .1 .1 .1 .1 .0) (z₂ .1 .1 .1 .1 .1 .0) x₂))))) (id⊢ 𝓤 _) $ pick ! (λ z₂.
         split ! $
         move ! (1 ∷ []) $
-        heard ! (Driven (n) sources targets (still) (xs) (z₁ .1 .1 .1 .1 .0) (z₁ .1 .1 .1 .1 .1 .0) (x₁) (z₂ .1 .1 .1 .0) (z₂ .1 .1 .1 .1 .0) (z₂ .1 .1 .1 .1 .1 .0) (z₂ .1 .1 .1 .1 .1 .1 .0) x₂) (λ e₂.
+        heard ! (EveryOf (n) (length sources) (λ g. DriveAsk g (still) (xs) (z₁ .1 .1 .1 .1 .0) (z₁ .1 .1 .1 .1 .1 .0) (x₁) → Driven g (still) (xs) (z₁ .1 .1 .1 .1 .0) (z₁ .1 .1 .1 .1 .1 .0) (x₁) (z₂ .1 .1 .0) (z₂ .1 .1 .1 .0) (z₂ .1 .1 .1 .1 .0) (z₂ .1 .1 .1 .1 .1 .0) x₂)) (λ e₂.
         fsplit ! $
         drop ! $
         fsplit ! $
         drop ! $
         fsplit ! $
-        drop ! $
+        move ! (1 ∷ []) $
         fsplit ! $
+        fsplit ! $
+        move ! (1 ∷ []) $
+        feqL ! (λ l₂b.
+        move ! (1 ∷ []) $
+        fsplit ! $
+        fsplit ! $
+        move ! (1 ∷ []) $
+        feqL ! (λ l₂c.
         move ! (1 ∷ []) $
         fsplit ! $
         fsplit ! $
         move ! (1 ∷ []) $
         feqL ! (λ l₂d.
         move ! (1 ∷ []) $
-        fsplit ! $
-        fsplit ! $
-        move ! (1 ∷ []) $
-        feqL ! (λ l₂e.
-        move ! (1 ∷ []) $
-        fsplit ! $
-        fsplit ! $
-        move ! (1 ∷ []) $
-        feqL ! (λ l₂f.
-        move ! (1 ∷ []) $
         drop ! $
         move ! (4 ∷ []) $
         split ! $
         move ! (1 ∷ []) $
         peeks ! O.the-row (Is O.the-row) (shows 𝓤 H A O.the-row) x₂ (w₂ ∷ []) (λ is₂.
-        land ! (from ! (stop !)) (init ! 52 refl (LL.lawful O.the-type O′.the-laws 𝓤 H A W .typed _ _ (is₂) .0)) $ rewrite ! 52 (λ (u : Val). ‵ (fat fullShare O′.mir l₁₀ 0 u)) (ap only (LL.tells O.the-type O′.the-laws _ _ is₂)) refl $
+        land ! (from ! (stop !)) (init ! 54 refl (LL.lawful O.the-type O′.the-laws 𝓤 H A W .typed _ _ (is₂) .0)) $ rewrite ! 54 (λ (u : Val). ‵ (fat fullShare O′.mir l₁₀ 0 u)) (ap only (LL.tells O.the-type O′.the-laws _ _ is₂)) refl $
         drop ! $
-        split ! $
-        move ! (1 ∷ []) $
-        split ! $
-        move ! (1 ∷ []) $
         split ! $
         move ! (1 ∷ []) $
         split ! $
@@ -411,19 +398,19 @@ module _ {M : Type 1} (𝓤 : URA M) (H : Heap 𝓤) (A : Atoms 𝓤) (W : Given
         drop ! $
         move ! (3 ∷ []) $
         lft-end ! tt $
-        move ! (0 ∷ 13 ∷ 9 ∷ []) $
-        use3 W (later (‵ (mem′ K.the-row .lies (z₂ .1 .1 .1 .0) l₉ 0))) (ref-back 𝓤 H A W K.the-row (ν₂c ∷ []) δ₂c (z₂ .1 .1 .1 .0) l₉ 0) $ await ! tt $
-        use1 W (some (λ (v : Val). ‵ (fat fullShare K′.mir l₉ 0 v))) (own.one-whole 𝓤 H A W (z₂ .1 .1 .1 .0) l₉) $ pick ! (λ vc.
+        move ! (0 ∷ 11 ∷ 7 ∷ []) $
+        use3 W (later (‵ (mem′ K.the-row .lies (z₂ .1 .1 .0) l₉ 0))) (ref-back 𝓤 H A W K.the-row (ν₂a ∷ []) δ₂a (z₂ .1 .1 .0) l₉ 0) $ await ! tt $
+        use1 W (some (λ (v : Val). ‵ (fat fullShare K′.mir l₉ 0 v))) (own.one-whole 𝓤 H A W (z₂ .1 .1 .0) l₉) $ pick ! (λ vc.
         move ! (3 ∷ []) $
         lft-end ! tt $
-        move ! (0 ∷ 11 ∷ 8 ∷ []) $
-        use3 W (later (‵ (Arr (mem′ P.the-row) (length xs) .lies (z₂ .1 .1 .1 .1 .0) l₈ 0))) (slice-back 𝓤 H A W P.the-row (ν₂d ∷ []) δ₂d (z₂ .1 .1 .1 .1 .0) (length xs) l₈ 0) $ await ! tt $
-        rewrite ! 0 (λ (m : ℕ). ‵ (Arr (mem′ P.the-row) m .lies (z₂ .1 .1 .1 .1 .0) l₈ 0)) (is-long ex) refl $
-        use1 W (some (λ (v : Val). ‵ (fat fullShare (own.array 𝓤 H A W P.the-row 512) l₈ 0 v))) (own.whole 𝓤 H A W P.the-row 512 (z₂ .1 .1 .1 .1 .0) l₈) $ pick ! (λ vl.
-        move ! (3 ∷ 7 ∷ 9 ∷ []) $
-        back-at ! tt u32 (named 3) (named 4) κ₃ q₃ γ₃ b₃ o₃ (z₁ .1 .1 .1 .1 .0) (z₂ .1 .1 .1 .1 .1 .0) ν₂e δ₂e (length numbers) room₃ (l₁c) l₂e $
-        move ! (4 ∷ 7 ∷ 8 ∷ []) $
-        back-at ! tt u64 (named 4) (named 5) κ₄ q₄ γ₄ b₄ o₄ (z₁ .1 .1 .1 .1 .1 .0) (z₂ .1 .1 .1 .1 .1 .1 .0) ν₂f δ₂f (length words) room₄ (l₁d) l₂f $
+        move ! (0 ∷ 9 ∷ 6 ∷ []) $
+        use3 W (later (‵ (Arr (mem′ P.the-row) (length xs) .lies (z₂ .1 .1 .1 .0) l₈ 0))) (slice-back 𝓤 H A W P.the-row (ν₂b ∷ []) δ₂b (z₂ .1 .1 .1 .0) (length xs) l₈ 0) $ await ! tt $
+        rewrite ! 0 (λ (m : ℕ). ‵ (Arr (mem′ P.the-row) m .lies (z₂ .1 .1 .1 .0) l₈ 0)) (is-long ex) refl $
+        use1 W (some (λ (v : Val). ‵ (fat fullShare (own.array 𝓤 H A W P.the-row 512) l₈ 0 v))) (own.whole 𝓤 H A W P.the-row 512 (z₂ .1 .1 .1 .0) l₈) $ pick ! (λ vl.
+        move ! (3 ∷ 5 ∷ 7 ∷ []) $
+        back-at ! tt u32 (named 3) (named 2) κ₃ q₃ γ₃ b₃ o₃ (z₁ .1 .1 .1 .1 .0) (z₂ .1 .1 .1 .1 .0) ν₂c δ₂c (length numbers) room₃ (l₁c) l₂c $
+        move ! (4 ∷ 5 ∷ 6 ∷ []) $
+        back-at ! tt u64 (named 4) (named 3) κ₄ q₄ γ₄ b₄ o₄ (z₁ .1 .1 .1 .1 .1 .0) (z₂ .1 .1 .1 .1 .1 .0) ν₂d δ₂d (length words) room₄ (l₁d) l₂d $
         -- finish
         assigns ! (of-opd ! (load ! (from ! (fld ! refl (stop !))) (look-in ! 64 (sub ! 1 refl (whole !))))) (from ! (stop !)) (store ! 48 refl (tt, record { fits = room₀ .0 })) $
         assigns ! (addr ! (from ! (fld ! refl (hop ! (look-in ! 60 (sub ! 0 refl (whole !))) (stop !))))) (from ! (stop !)) (init ! 22 refl (tt, tt)) $
@@ -435,24 +422,24 @@ module _ {M : Type 1} (𝓤 : URA M) (H : Heap 𝓤) (A : Atoms 𝓤) (W : Given
         move ! (10 ∷ 11 ∷ []) $
         lend-at ! tt u32 (named 2) (named 0) κ₂ q₂ γ₂ b₂ o₂ (label) (length label) (refl) (λ ν₃a δ₃a.
         move ! (5 ∷ 6 ∷ []) $
-        lend-at ! tt u32 (named 3) (named 1) κ₃ q₃ γ₃ b₃ o₃ (z₂ .1 .1 .1 .1 .1 .0) (length numbers) (l₂e ∙ l₁c) (λ ν₃b δ₃b.
+        lend-at ! tt u32 (named 3) (named 1) κ₃ q₃ γ₃ b₃ o₃ (z₂ .1 .1 .1 .1 .0) (length numbers) (l₂c ∙ l₁c) (λ ν₃b δ₃b.
         move ! (6 ∷ 7 ∷ []) $
-        lend-at ! tt u64 (named 4) (named 2) κ₄ q₄ γ₄ b₄ o₄ (z₂ .1 .1 .1 .1 .1 .1 .0) (length words) (l₂f ∙ l₁d) (λ ν₃c δ₃c.
+        lend-at ! tt u64 (named 4) (named 2) κ₄ q₄ γ₄ b₄ o₄ (z₂ .1 .1 .1 .1 .1 .0) (length words) (l₂d ∙ l₁d) (λ ν₃c δ₃c.
         move ! (6 ∷ 3 ∷ 0 ∷ 7 ∷ 4 ∷ 1 ∷ []) $
         join ! $
         join ! $
         join ! $
         join ! $
         join ! $
-        use1 W (raw (Finish 𝓤 H A mem run .pre (to-finish₃ (n) (length sources) ν₃a δ₃a (label) ν₃b δ₃b (z₂ .1 .1 .1 .1 .1 .0) ν₃c δ₃c (z₂ .1 .1 .1 .1 .1 .1 .0) (x₂)))) (goes-finish₃ (n) (length sources) ν₃a δ₃a (label) ν₃b δ₃b (z₂ .1 .1 .1 .1 .1 .0) ν₃c δ₃c (z₂ .1 .1 .1 .1 .1 .1 .0) (x₂) (is-n) (room₀ .0) (subst (Is O.the-row x₂) (LL.tells O.the-type O′.the-laws x₂ _ is₂) is₂) (plain-finish e₁ e₂)) $
-        calls-at ! fm (Finish 𝓤 H A mem run) known-finish (to-finish₃ (n) (length sources) ν₃a δ₃a (label) ν₃b δ₃b (z₂ .1 .1 .1 .1 .1 .0) ν₃c δ₃c (z₂ .1 .1 .1 .1 .1 .1 .0) (x₂)) (and-then ! (load ! (from ! (stop !)) (look ! 64 refl)) (and-then ! (load ! (from ! (stop !)) (look ! 46 refl)) (and-then ! (load ! (from ! (stop !)) (look ! 18 refl)) (and-then ! (load ! (from ! (stop !)) (look ! 14 refl)) (and-then ! (load ! (from ! (stop !)) (look ! 10 refl)) (and-then ! (load ! (from ! (stop !)) (look ! 48 refl)) (no-more !))))))) (λ w₃.
-        use1 W (later (some (λ (x₃ : Answer). ((‵ (flft (ν₃a ∷ []) fullShare) ⊛ ‵ (flft (ν₃b ∷ []) fullShare) ⊛ ‵ (flft (ν₃c ∷ []) fullShare) ⊛ ‵ ftrue) ⊛ ‵ (N.the-row .own x₃ (w₃ ∷ []))) ⊛ raw (ensured 𝓤 H A finish.ended (finish.clauses 𝓤 H A mem run) (ν₃a ∷ [], (ν₃b ∷ [], (ν₃c ∷ [], tt))) ((n), ((length sources), (r₂ δ₃a (label), (r₃ δ₃b (z₂ .1 .1 .1 .1 .1 .0), (r₄ δ₃c (z₂ .1 .1 .1 .1 .1 .1 .0), ((x₂), tt)))))) tt x₃)))) (id⊢ 𝓤 _) $ await ! tt $ pick ! (λ x₃.
+        use1 W (raw (Finish 𝓤 H A mem run .pre (to-finish₃ (n) (length sources) ν₃a δ₃a (label) ν₃b δ₃b (z₂ .1 .1 .1 .1 .0) ν₃c δ₃c (z₂ .1 .1 .1 .1 .1 .0) (x₂)))) (goes-finish₃ (n) (length sources) ν₃a δ₃a (label) ν₃b δ₃b (z₂ .1 .1 .1 .1 .0) ν₃c δ₃c (z₂ .1 .1 .1 .1 .1 .0) (x₂) (is-n) (room₀ .0) (subst (Is O.the-row x₂) (LL.tells O.the-type O′.the-laws x₂ _ is₂) is₂) (plain-finish e₁ (plain-driven ex e₁ e₂))) $
+        calls-at ! fm (Finish 𝓤 H A mem run) known-finish (to-finish₃ (n) (length sources) ν₃a δ₃a (label) ν₃b δ₃b (z₂ .1 .1 .1 .1 .0) ν₃c δ₃c (z₂ .1 .1 .1 .1 .1 .0) (x₂)) (and-then ! (load ! (from ! (stop !)) (look ! 64 refl)) (and-then ! (load ! (from ! (stop !)) (look ! 46 refl)) (and-then ! (load ! (from ! (stop !)) (look ! 18 refl)) (and-then ! (load ! (from ! (stop !)) (look ! 14 refl)) (and-then ! (load ! (from ! (stop !)) (look ! 10 refl)) (and-then ! (load ! (from ! (stop !)) (look ! 48 refl)) (no-more !))))))) (λ w₃.
+        use1 W (later (some (λ (x₃ : Answer). ((‵ (flft (ν₃a ∷ []) fullShare) ⊛ ‵ (flft (ν₃b ∷ []) fullShare) ⊛ ‵ (flft (ν₃c ∷ []) fullShare) ⊛ ‵ ftrue) ⊛ ‵ (N.the-row .own x₃ (w₃ ∷ []))) ⊛ raw (ensured 𝓤 H A finish.ended (finish.clauses 𝓤 H A mem run) (ν₃a ∷ [], (ν₃b ∷ [], (ν₃c ∷ [], tt))) ((n), ((length sources), (r₂ δ₃a (label), (r₃ δ₃b (z₂ .1 .1 .1 .1 .0), (r₄ δ₃c (z₂ .1 .1 .1 .1 .1 .0), ((x₂), tt)))))) tt x₃)))) (id⊢ 𝓤 _) $ await ! tt $ pick ! (λ x₃.
         split ! $
         move ! (1 ∷ []) $
-        use1 W (some (λ (z₃ : Unit {0} × (Unit {0} × (List ℕ × (List ℕ × (List ℕ × (Unit {0} × Unit {0})))))). ‵ (lasts finish.ended (ν₃a ∷ [], (ν₃b ∷ [], (ν₃c ∷ [], tt))) ((n), ((length sources), (r₂ δ₃a (label), (r₃ δ₃b (z₂ .1 .1 .1 .1 .1 .0), (r₄ δ₃c (z₂ .1 .1 .1 .1 .1 .1 .0), ((x₂), tt)))))) z₃) ⊛ raw (fact 𝓤 (Ended (n) (length sources) (label) (z₂ .1 .1 .1 .1 .1 .0) (z₂ .1 .1 .1 .1 .1 .1 .0) (x₂) (z₃ .1 .1 .0) (z₃ .1 .1 .1 .0) (z₃ .1 .1 .1 .1 .0) x₃)))) (id⊢ 𝓤 _) $ pick ! (λ z₃.
+        use1 W (some (λ (z₃ : Unit {0} × (Unit {0} × (List ℕ × (List ℕ × (List ℕ × (Unit {0} × Unit {0})))))). ‵ (lasts finish.ended (ν₃a ∷ [], (ν₃b ∷ [], (ν₃c ∷ [], tt))) ((n), ((length sources), (r₂ δ₃a (label), (r₃ δ₃b (z₂ .1 .1 .1 .1 .0), (r₄ δ₃c (z₂ .1 .1 .1 .1 .1 .0), ((x₂), tt)))))) z₃) ⊛ raw (fact 𝓤 (Ended (n) (length sources) (label) (z₂ .1 .1 .1 .1 .0) (z₂ .1 .1 .1 .1 .1 .0) (x₂) (z₃ .1 .1 .0) (z₃ .1 .1 .1 .0) (z₃ .1 .1 .1 .1 .0) x₃)))) (id⊢ 𝓤 _) $ pick ! (λ z₃.
         split ! $
         move ! (1 ∷ []) $
-        heard ! (Ended (n) (length sources) (label) (z₂ .1 .1 .1 .1 .1 .0) (z₂ .1 .1 .1 .1 .1 .1 .0) (x₂) (z₃ .1 .1 .0) (z₃ .1 .1 .1 .0) (z₃ .1 .1 .1 .1 .0) x₃) (λ e₃.
+        heard ! (Ended (n) (length sources) (label) (z₂ .1 .1 .1 .1 .0) (z₂ .1 .1 .1 .1 .1 .0) (x₂) (z₃ .1 .1 .0) (z₃ .1 .1 .1 .0) (z₃ .1 .1 .1 .1 .0) x₃) (λ e₃.
         fsplit ! $
         drop ! $
         fsplit ! $
@@ -489,9 +476,9 @@ module _ {M : Type 1} (𝓤 : URA M) (H : Heap 𝓤) (A : Atoms 𝓤) (W : Given
         move ! (2 ∷ 5 ∷ 8 ∷ []) $
         back-at ! tt u32 (named 2) (named 0) κ₂ q₂ γ₂ b₂ o₂ (label) (z₃ .1 .1 .0) ν₃a δ₃a (length label) room₂ (refl) l₃a $
         move ! (3 ∷ 5 ∷ 7 ∷ []) $
-        back-at ! tt u32 (named 3) (named 1) κ₃ q₃ γ₃ b₃ o₃ (z₂ .1 .1 .1 .1 .1 .0) (z₃ .1 .1 .1 .0) ν₃b δ₃b (length numbers) room₃ (l₂e ∙ l₁c) l₃b $
+        back-at ! tt u32 (named 3) (named 1) κ₃ q₃ γ₃ b₃ o₃ (z₂ .1 .1 .1 .1 .0) (z₃ .1 .1 .1 .0) ν₃b δ₃b (length numbers) room₃ (l₂c ∙ l₁c) l₃b $
         move ! (4 ∷ 5 ∷ 6 ∷ []) $
-        back-at ! tt u64 (named 4) (named 2) κ₄ q₄ γ₄ b₄ o₄ (z₂ .1 .1 .1 .1 .1 .1 .0) (z₃ .1 .1 .1 .1 .0) ν₃c δ₃c (length words) room₄ (l₂f ∙ l₁d) l₃c $
+        back-at ! tt u64 (named 4) (named 2) κ₄ q₄ γ₄ b₄ o₄ (z₂ .1 .1 .1 .1 .1 .0) (z₃ .1 .1 .1 .1 .0) ν₃c δ₃c (length words) room₄ (l₂d ∙ l₁d) l₃c $
         returns ! (look ! 68 refl) $
         forget ! 68 refl $
         forget ! 66 refl $
@@ -585,7 +572,7 @@ module _ {M : Type 1} (𝓤 : URA M) (H : Heap 𝓤) (A : Atoms 𝓤) (W : Given
         free1 ! $
         free0 ! $
         keep ! (9 ∷ 8 ∷ 4 ∷ 2 ∷ 0 ∷ 7 ∷ 6 ∷ 5 ∷ 3 ∷ 1 ∷ []) $
-        by ! (exits (x₃) (subst (Is N.the-row x₃) (EL.tells N.the-type N′.the-laws x₃ _ is₃) is₃) (z₃ .1 .1 .0) (z₃ .1 .1 .1 .0) (z₃ .1 .1 .1 .1 .0) (l₃a) (l₃b ∙ l₂e ∙ l₁c) (l₃c ∙ l₂f ∙ l₁d) (plainly ex e₁ e₂ e₃))))))))))))))))))))))))))))))))))))))))))))))))))))))))))))))))))))))))
+        by ! (exits (x₃) (subst (Is N.the-row x₃) (EL.tells N.the-type N′.the-laws x₃ _ is₃) is₃) (z₃ .1 .1 .0) (z₃ .1 .1 .1 .0) (z₃ .1 .1 .1 .1 .0) (l₃a) (l₃b ∙ l₂c ∙ l₁c) (l₃c ∙ l₂d ∙ l₁d) (plainly ex e₁ (plain-driven ex e₁ e₂) e₃))))))))))))))))))))))))))))))))))))))))))))))))))))))))))))))))))))))))
 
 module _ {M : Type 1} (𝓤 : URA M) (H : Heap 𝓤) (A : Atoms 𝓤) (W : Given 𝓤 H A) (mem : Memory → SProp 𝓤) (run : Routine → Fun 𝓤) where
   plain-walks : (C : Calls 𝓤 H) (Λ : Loops 𝓤 H) → FmC 𝓤 H (W .laws) C → Triple 𝓤 (C #decompose·plain·prepare) (Prepare 𝓤 H A mem run) → Triple 𝓤 (C #decompose·plain·fresh) (Fresh 𝓤 H A mem run) → Triple 𝓤 (C #decompose·turns·drive) (Drive 𝓤 H A mem run) → Triple 𝓤 (C #decompose·finish·finish) (Finish 𝓤 H A mem run) → Walks 𝓤 H A f.ended stayed (WpFn 𝓤 H C Λ code.function) (f.clauses 𝓤 H A mem run)

@@ -16,8 +16,8 @@ mul-b c = search needs
 divide-requires : tie.Need-divide-requires
 divide-requires c κs =
     let at-if1 = c .before .before in
-    let start = at-if1 .before .before .before .before .before .before in
-    cut-whole (start .pre) (at-if1 .if1 .taken)
+    let start = at-if1 .before .before .before .before in
+    (start .pre .0, cut-whole (start .pre .1) (at-if1 .if1 .taken))
 
 same-length : tie.Need-same-length
 same-length c = search needs
@@ -29,14 +29,15 @@ returns : tie.Need-returns
 returns c =
     let at-divide = c .before .before .before .before in
     let at-if1 = at-divide .before .before .before in
-    let start = at-if1 .before .before .before .before .before .before in
-    cut-sliced (start .pre .whole (at-if1 .if1 .taken) .zero) (at-if1 .if1 .taken) (at-divide .divide .ensures)
+    λ g q. cut-sliced (q .whole (at-if1 .if1 .taken) .zero) (at-if1 .if1 .taken) (at-divide .divide .ensures g (cut-whole q (at-if1 .if1 .taken)))
 
 cast-divide : tie.Need-cast-divide
 cast-divide c = search needs
 
 divide-requires-2 : tie.Need-divide-requires-2
-divide-requires-2 c κs = search needs
+divide-requires-2 c κs =
+    let start = c .before .before .before .before .before .before .before in
+    (start .pre .0, start .pre .1 .ask)
 
 same-length-3 : tie.Need-same-length-3
 same-length-3 c = search needs
@@ -47,7 +48,7 @@ same-length-4 c = search needs
 returns-2 : tie.Need-returns-2
 returns-2 c =
     let at-divide2 = c .before .before .before .before in
-    cut-parted (at-divide2 .divide2 .ensures)
+    λ g q. cut-parted (at-divide2 .divide2 .ensures g (q .ask))
 
 pub cut-spec : {M : Type 1} → statement M
 cut-spec =

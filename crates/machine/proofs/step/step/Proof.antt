@@ -10,13 +10,13 @@ clear-requires c κs = search needs
 returns : tie.Need-returns
 returns c =
     let at-if1 = c .before in
-    rw (c .clear .ensures) (clears (at-if1 .if1 .taken))
+    rw (c .clear .ensures) (λ g q. clears (at-if1 .if1 .taken))
 
 hand-requires : tie.Need-hand-requires
 hand-requires c κs =
     let at-if2 = c .before in
-    let start = at-if2 .before .before .before .before .before .before .before .before in
-    let a = start .pre in
+    let start = at-if2 .before .before .before .before .before .before in
+    let a = start .pre .1 in
     record { small = a .small; few = a .few; fits = a .fits; oldest = a .oldest; count = a .room (at-if2 .if2 .taken); given = omega (arith, a .pending, at-if2 .if2 .taken) }
 
 same-length : tie.Need-same-length
@@ -26,10 +26,14 @@ returns-2 : tie.Need-returns-2
 returns-2 c =
     let at-if2 = c .before .before in
     let at-if1 = at-if2 .before .before in
-    rw (c .hand .ensures) (hands (at-if1 .if1 .left) (at-if2 .if2 .taken))
+    rw (c .hand .ensures) (λ g q. hands (at-if1 .if1 .left) (at-if2 .if2 .taken))
 
 take-requires : tie.Need-take-requires
-take-requires c κs = search needs
+take-requires c κs =
+    let at-if2 = c .before .before in
+    let at-if1 = at-if2 .before .before in
+    let start = at-if1 .before .before .before .before in
+    (start .pre .0, record { ask = start .pre .1; cleared = at-if1 .if1 .left; given = at-if2 .if2 .left })
 
 same-length-2 : tie.Need-same-length-2
 same-length-2 c = search needs
@@ -38,7 +42,11 @@ same-length-3 : tie.Need-same-length-3
 same-length-3 c = search needs
 
 returns-3 : tie.Need-returns-3
-returns-3 c = search needs
+returns-3 c =
+    let at-take = c .before .before .before .before in
+    let at-if2 = at-take .before .before .before in
+    let at-if1 = at-if2 .before .before in
+    λ g q. at-take .take .ensures g (record { ask = q; cleared = at-if1 .if1 .left; given = at-if2 .if2 .left })
 
 pub step-spec : {M : Type 1} → statement M
 step-spec =
