@@ -1,5 +1,5 @@
 // Times the library and what it is measured against, table by table, in turn in one process, and compares what they give. Writes a CSV of nanoseconds.
-// The sizes may be given. With 'families': writes their names. With 'one FAMILY CONTENDER N': one run, for a counter of instructions, and writes n + m.
+// The sizes may be given. With 'families': writes their names. With 'once FAMILY N': one run of each contender that is counted, for callgrind.
 #include "../include/tinoweala.h"
 #include "plain.hpp"
 #include <algorithm>
@@ -9,8 +9,14 @@
 #include <ctime>
 #include <functional>
 #include <memory>
-#include <set>
 #include <utility>
+#if __has_include(<valgrind/callgrind.h>)
+#include <valgrind/callgrind.h>
+#else
+#define CALLGRIND_START_INSTRUMENTATION
+#define CALLGRIND_STOP_INSTRUMENTATION
+#define CALLGRIND_DUMP_STATS_AT(name)
+#endif
 
 namespace {
 
@@ -35,22 +41,19 @@ struct Contender {
 
 using Contenders = std::vector<Contender>;
 
-// The counter of instructions looks at this function alone.
-extern "C" [[gnu::noinline]] void measured(const Contender &contender) { contender.run(); }
-
 // Everything a call of the library is lent, for one table.
 struct Lent {
     const Table &table;
     Room room;
     std::vector<uint64_t> words, starts, all, set;
     std::vector<tinoweala_part> waiting;
-    std::vector<uint32_t> right, label, rank, in_edge, in_distance, out_edge, out_distance, path, edges, summary;
+    std::vector<uint32_t> list, right, label, rank, in_edge, in_distance, out_edge, out_distance, path, edges, summary;
     std::string text;
     uint32_t far = 0, verdict = 9;
 
     explicit Lent(const Table &t)
-        : table(t), room(t), words(tinoweala_words(t.n)), starts(tinoweala_set_words(t.n), 1), all(starts.size(), ~uint64_t(0)), set(starts.size()), waiting(t.n), right(t.n), label(t.n),
-          rank(t.n), in_edge(t.n), in_distance(t.n), out_edge(t.n), out_distance(t.n), path(t.n), edges(2 * t.m()), summary(3) {
+        : table(t), room(t), words(tinoweala_words(t.n)), starts(tinoweala_set_words(t.n), 1), all(starts.size(), ~uint64_t(0)), set(starts.size()), waiting(t.n), list(any_order(t.n)), right(t.n),
+          label(t.n), rank(t.n), in_edge(t.n), in_distance(t.n), out_edge(t.n), out_distance(t.n), path(t.n), edges(2 * t.m()), summary(3) {
         plain_tarjan(table, room, right.data());
         plain_distances(table, room, 0, label.data());
         for (uint32_t v = 0; v < t.n; v++)
@@ -61,8 +64,8 @@ struct Lent {
         tinoweala_chooser chooser = {kind, 1};
         size_t draws;
         return tinoweala_decompose(
-            table.n, table.sources.data(), table.m(), table.targets.data(), table.m(), method, 0, &chooser, nullptr, 0, waiting.data(), table.n, label.data(), table.n, room.numbers.data(),
-            room.numbers.size(), words.data(), words.size(), &draws);
+            table.n, table.sources.data(), table.m(), table.targets.data(), table.m(), method, 0, &chooser, list.data(), table.n, waiting.data(), table.n, label.data(), table.n,
+            room.numbers.data(), room.numbers.size(), words.data(), words.size(), &draws);
     }
     uint32_t write_certificate() {
         const size_t n = table.n;
@@ -139,7 +142,7 @@ Contenders labels(Lent &lent) {
     const auto right = same(lent.label, lent.right);
     Contenders contenders = {{"tarjan", [&lent] { plain_tarjan(lent.table, lent.room, lent.label.data()); }, right}};
     for (uint32_t method = 0; method < 2; method++)
-        for (uint32_t kind = 0; kind < 2; kind++)
+        for (uint32_t kind = 0; kind < 3; kind++)
             contenders.push_back({"method " + std::to_string(method) + " kind " + std::to_string(kind), [=, &lent] { lent.decompose(method, kind); }, right});
 #ifdef WITH_boost
     contenders.push_back({"boost", [&lent] { boost_labels(lent.table, lent.label.data()); }, right});
@@ -191,11 +194,13 @@ struct Task {
 };
 const std::vector<Task> tasks = {{"labels", labels}, {"search", searching}, {"trim", trimming}, {"path", finding_path}, {"summary", summing}, {"reader", reading}};
 
-// Contenders that were too slow on a family's smaller table.
-using Tired = std::set<std::string>;
+// A quadratic contender stays away from tables on which it takes many seconds.
+bool takes_part(const Family &family, const std::string &contender, uint32_t n) {
+    return n <= 16384 || !std::count(family.quadratic.begin(), family.quadratic.end(), contender);
+}
 
-// The contenders run in turn, round after round. A contender that takes over half a second runs once, and not on larger tables.
-void race(const Task &task, const Family &family, Lent &lent, Tired &tired) {
+// The contenders run in turn, round after round; one that takes over half a second runs once.
+void race(const Task &task, const Family &family, Lent &lent) {
     const double enough = 1.5e9, slow = 5e8;
     const size_t fewest = 7, most = 300;
     const Contenders contenders = task.contenders(lent);
@@ -204,14 +209,13 @@ void race(const Task &task, const Family &family, Lent &lent, Tired &tired) {
     for (size_t round = 0; round < fewest || (round < most && spent < enough); round++)
         for (size_t i = 0; i < contenders.size(); i++) {
             const Contender &c = contenders[i];
-            if (tired.count(c.name)) continue;
+            if (!takes_part(family, c.name, lent.table.n) || (!times[i].empty() && times[i][0] > slow)) continue;
             const double start = now();
-            measured(c);
+            c.run();
             const double time = now() - start;
             if (!c.right()) fail(c.name + " is wrong: " + task.name + " of " + family.name);
             times[i].push_back(time);
             spent += time;
-            if (time > slow) tired.insert(c.name);
         }
     for (size_t i = 0; i < contenders.size(); i++) {
         std::vector<double> &t = times[i];
@@ -222,25 +226,35 @@ void race(const Task &task, const Family &family, Lent &lent, Tired &tired) {
     }
 }
 
-int one(const std::string &family_name, const std::string &contender, uint32_t n) {
+const Family &family_of(const std::string &name) {
     for (const Family &family : families)
-        if (family.name == family_name) {
-            const Table table = family.make(n);
-            Lent lent(table);
-            for (const Contender &c : labels(lent))
-                if (c.name == contender) {
-                    measured(c);
-                    std::printf("%zu\n", n + table.m());
-                    return c.right() ? 0 : 1;
-                }
+        if (family.name == name) return family;
+    fail("no such family");
+}
+
+// One run of Tarjan and of the library for each task, under callgrind, which dumps each count by the name of its row. The library is named by its task where it has plain code beside it.
+void once(const Family &family, uint32_t n) {
+    const Table table = family.make(n);
+    Lent lent(table);
+    for (const Task &task : tasks)
+        for (const Contender &c : task.contenders(lent)) {
+            if (c.name == "plain" || c.name == "boost" || c.name == "igraph" || !takes_part(family, c.name, n)) continue;
+            const std::string row = std::string(family.name) + "," + std::to_string(n) + "," + std::to_string(table.m()) + "," + (c.name == "library" ? task.name : c.name);
+            CALLGRIND_START_INSTRUMENTATION;
+            c.run();
+            CALLGRIND_STOP_INSTRUMENTATION;
+            CALLGRIND_DUMP_STATS_AT(row.c_str());
+            if (!c.right()) fail(c.name + " is wrong: " + task.name + " of " + family.name);
         }
-    fail("no such family or contender");
 }
 
 }  // namespace
 
 int main(int count, char **argument) {
-    if (count == 5 && !std::strcmp(argument[1], "one")) return one(argument[2], argument[3], uint32_t(std::strtoul(argument[4], nullptr, 10)));
+    if (count == 4 && !std::strcmp(argument[1], "once")) {
+        once(family_of(argument[2]), uint32_t(std::strtoul(argument[3], nullptr, 10)));
+        return 0;
+    }
     if (count == 2 && !std::strcmp(argument[1], "families")) {
         for (const Family &family : families) std::puts(family.name);
         return 0;
@@ -249,12 +263,10 @@ int main(int count, char **argument) {
     for (int i = 1; i < count; i++) sizes.push_back(uint32_t(std::strtoul(argument[i], nullptr, 10)));
     if (sizes.empty()) sizes = {4096, 8192, 16384, 32768, 65536};
     std::printf("task,family,n,m,bytes,contender,rounds,least,median\n");
-    for (const Family &family : families) {
-        Tired tired;
+    for (const Family &family : families)
         for (uint32_t n : sizes) {
             const Table table = family.make(n);
             Lent lent(table);
-            for (const Task &task : tasks) race(task, family, lent, tired);
+            for (const Task &task : tasks) race(task, family, lent);
         }
-    }
 }

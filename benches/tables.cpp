@@ -7,9 +7,10 @@ namespace {
 
 // Xorshift: the same tables on every machine.
 class Random {
-    uint64_t state = 88172645463325252u;
+    uint64_t state;
 
 public:
+    explicit Random(uint64_t seed = 88172645463325252u) : state(seed) {}
     uint32_t below(uint32_t k) {
         state ^= state << 13, state ^= state >> 7, state ^= state << 17;
         return uint32_t((state >> 11) % k);
@@ -74,13 +75,30 @@ Table small_rings(uint32_t n) {
     return table;
 }
 
-Table chain_of_rings(uint32_t n) {
+// Rings of two from vertex first on, each with an edge to the next.
+Table rings_from(uint32_t first, uint32_t n) {
     Table table(n);
-    for (uint32_t v = 0; v + 1 < n; v += 2) {
+    for (uint32_t v = first; v + 1 < n; v += 2) {
         table.edge(v, v + 1);
         table.edge(v + 1, v);
         if (v + 2 < n) table.edge(v + 1, v + 2);
     }
+    return table;
+}
+
+Table chain_of_rings(uint32_t n) { return rings_from(0, n); }
+
+// One edge more, from the chain's first ring to its last.
+Table ends_joined(uint32_t n) {
+    Table table = rings_from(0, n);
+    table.edge(0, n - 1);
+    return table;
+}
+
+// Vertex 0 refers to every ring of the chain behind it.
+Table cover_sheet(uint32_t n) {
+    Table table = rings_from(1, n);
+    for (uint32_t v = 1; v + 1 < n; v += 2) table.edge(0, v);
     return table;
 }
 
@@ -98,6 +116,9 @@ Table power_law(uint32_t n) {
 
 }  // namespace
 
+// Who takes one nested part for each ring of the chain.
+const std::vector<std::string> method_0 = {"method 0 kind 0"}, both = {"method 0 kind 0", "method 1 kind 0"};
+
 const std::vector<Family> families = {
     {"random m = n", random_n},
     {"random m = 4n", random_4n},
@@ -107,8 +128,15 @@ const std::vector<Family> families = {
     {"shuffled chain", shuffled_chain},
     {"small rings", small_rings},
     {"giant ring", giant_ring},
-    {"chain of 2-rings", chain_of_rings},
+    {"chain of 2-rings", chain_of_rings, method_0},
+    {"ends joined", ends_joined, both},
+    {"cover sheet", cover_sheet, both},
 };
+
+std::vector<uint32_t> any_order(uint32_t n) {
+    Random random(2463534242u);
+    return shuffled(n, random);
+}
 
 std::string text_of(const Table &table) {
     const std::string n = std::to_string(table.n);

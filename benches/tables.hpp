@@ -20,9 +20,14 @@ struct Table {
 struct Family {
     const char *name;
     Table (*make)(uint32_t n);
+    // contenders whose time is quadratic on it
+    std::vector<std::string> quadratic = {};
 };
 
 extern const std::vector<Family> families;
+
+// The vertices in an order that no family's table has.
+std::vector<uint32_t> any_order(uint32_t n);
 
 // The table as a Matrix Market text.
 std::string text_of(const Table &table);
