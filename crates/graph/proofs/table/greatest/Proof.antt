@@ -1,0 +1,59 @@
+use Prim.Native.Nat.{_≤_, _-_}
+use native.Mathlib.Omega.{arith}
+use mathlib.Core.Path.{_≡_}
+use lib.ListN.{length}
+use borrow.Author.Needs.{needs}
+use Rattle.graph.specs.Refusal.{Greatest}
+use Rattle.graph.proofs.Refusals.{greatest-none, greatest-step}
+use Rattle.graph.proofs.table.greatest.Statement.{statement}
+use Rattle.graph.proofs.table.greatest.Tie as tie
+
+abbrev Inv-loop : tie.InvT-loop
+Inv-loop xs top₀ i₀ top i = (i ≤ length xs) × Greatest i xs top
+
+abbrev μ-loop : tie.MeasureT-loop
+μ-loop xs top₀ i₀ top i = length xs - i
+
+loop-holds : tie.Need-loop-holds Inv-loop μ-loop
+loop-holds c = (omega arith, greatest-none _)
+
+mul-greater : tie.Need-mul-greater Inv-loop μ-loop
+mul-greater c = omega arith
+
+shared-slice-read-greater : tie.Need-shared-slice-read-greater Inv-loop μ-loop
+shared-slice-read-greater c = omega arith
+
+greater-requires : tie.Need-greater-requires Inv-loop μ-loop
+greater-requires c κs = search needs
+
+add-i : tie.Need-add-i Inv-loop μ-loop
+add-i c = omega arith
+
+loop-less : tie.Need-loop-less Inv-loop μ-loop
+loop-less c = omega arith
+
+loop-again : tie.Need-loop-again Inv-loop μ-loop
+loop-again c =
+    let at-loop = c .before .before .before .loop in
+    (omega arith, greatest-step (c .before .before .before .before .before .args .xs .now) (at-loop .i) (at-loop .top) (c .greater .result) (at-loop .inv .1) (c .greater .ensures))
+
+returns : tie.Need-returns Inv-loop μ-loop
+returns c =
+    let at-loop = c .before .loop in
+    let e : at-loop .i ≡ length (c .before .before .before .args .xs .now) = omega arith in
+    rw e at (at-loop .inv .1)
+
+pub greatest-spec : {M : Type 1} → statement M
+greatest-spec =
+    tie.close
+    (tie.spec
+    Inv-loop
+    μ-loop
+    loop-holds
+    mul-greater
+    shared-slice-read-greater
+    greater-requires
+    add-i
+    loop-less
+    loop-again
+    returns)
