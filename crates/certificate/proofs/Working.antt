@@ -130,6 +130,7 @@ module _ {n : ℕ} {sources targets lab : List ℕ} {b : ℕ} {w : List ℕ} (a 
                 inl (
                   p,
                   record {
+                    index = held-kept g 0 w₁ w₃ (λ j l m. z .kept .low j (omega (arith, a .place)) ∙ there .kept .low j (omega (arith, a .place))) (x .forward);
                     there = λ v l. rw (kept-there v l) (there-found .0 v l);
                     there-low = λ v l. rw (kept-there v l) (there-found .1 v l);
                     back = far;
@@ -169,6 +170,7 @@ module _ {n : ℕ} {sources targets lab : List ℕ} {b : ℕ} {w : List ℕ} (a 
                 fits = omega (arith, a .room, x .framed .long, y .framed .long);
               };
           counts = a .counts;
+          index = held-kept (graph n sources targets) 0 w w₂ (λ j l m. front-two j (omega (arith, a .below))) (a .index);
           below = a .below;
         }
 
@@ -295,6 +297,7 @@ module _ {n : ℕ} {sources targets lab : List ℕ} {w : List ℕ} (a : WorkAsk 
             own = own;
             small = a .small;
             few = a .few;
+            index = near-now .index;
             below = omega arith;
             room = omega (arith, a .room, x .beyond .long);
           }

@@ -10,6 +10,7 @@ use Rattle.graph.specs.Graph.{Graph, Valid, rev, edges}
 use Rattle.graph.specs.Limits.{mostVertices, mostEdges, numbersNeeded}
 use Rattle.graph.specs.Checker.{at}
 use Rattle.graph.specs.Certificate.{Right, certificate}
+use Rattle.index.specs.Index.{Held}
 use Rattle.classes.specs.Classes.{OwnLabels, Distances}
 use Rattle.regions.specs.Regions.{region, inDistances, outDistances, inEdges, outEdges, ranksAt, countsAt, Copied}
 use Rattle.certificate.specs.Entries.{Entries}
@@ -37,8 +38,9 @@ pub record FindAsk (g : Graph) (lab : List ℕ) (b : ℕ) (w : List ℕ) : Type 
   pub own : OwnLabels (g .n) lab
   pub place : b ≡ base g
 
--- the distances from and to the labels stand in their regions
+-- the distances from and to the labels stand in their regions, and the neighbours at the front
 pub record Near (g : Graph) (lab : List ℕ) (b : ℕ) (w : List ℕ) : Type 0 where
+  pub index : Held g 0 w
   pub there : Distances g lab (region (inDistances (g .n) b) w)
   pub there-low : (v : ℕ) → v < g .n → region (inDistances (g .n) b) w v < g .n
   pub back : Distances (rev g) lab (region (outDistances (g .n) b) w)
@@ -55,6 +57,7 @@ pub record CompleteAsk (g : Graph) (lab : List ℕ) (b : ℕ) (w : List ℕ) : T
   pub own : OwnLabels (g .n) lab
   pub small : g .n ≤ mostVertices
   pub few : edges g ≤ mostEdges
+  pub index : Held g 0 w
   pub below : g .n + 1 + edges g ≤ b
   pub room : b + 7 * g .n + 1 ≤ length w
 

@@ -6,8 +6,8 @@ use mathlib.Core.Path.{_≡_, refl, sym, ap, _∙_}
 use mathlib.Core.Logic.{_⊎_, inl, inr, by-cases}
 use mathlib.Core.Bool.{true, false, not, _&&_}
 use mathlib.Core.List.{List}
-use lib.ListN.{length, getD, set}
-use lib.Seq.{getD-set-same, getD-set-other}
+use lib.ListN.{length, getD, set, take}
+use lib.Seq.{getD-set-same, getD-set-other, getD-take, length-take-le}
 use lib.Dec.{eqb}
 use borrow.Author.Tests.{eq-eqb, ne-eqb}
 use Rattle.graph.specs.Graph.{Graph, edges, to}
@@ -19,7 +19,7 @@ use Rattle.graph.proofs.Ranges.{many-ext, many-next}
 use Rattle.graph.proofs.Tests.{length-table}
 use Rattle.regions.specs.Regions.{region, queueAt, inEdges, ranksAt, countsAt, Holds, Filled}
 use Rattle.index.specs.Index.{numbered}
-use Rattle.index.specs.Build.{One, OneAsk}
+use Rattle.index.specs.Build.{One, OneAsk, RenumberAsk}
 use Rattle.index.proofs.Asks.{valid-column}
 use Rattle.index.proofs.Counts.{start-all}
 use Rattle.index.proofs.Moved.{held-kept}
@@ -128,6 +128,13 @@ numbers-ask {g} a = record {
   column = valid-column (a .ground .valid) (a .ground .small) (a .ground .few);
   even = length-table (edges g) (λ (e : ℕ). e);
   room = omega (arith, a .below, a .ground .fits);
+}
+
+-- and the offsets stand already
+pub renumber-ask : {g : Graph} {lab : List ℕ} {b : ℕ} {w : List ℕ} → RanksAsk g lab b w → RenumberAsk (numbered g) (take (g .n + 1 + edges g) w)
+renumber-ask {g} {w = w} a = let o = numbers-ask a in record {
+  ask = record { column = o .column; even = o .even; long = length-take-le (g .n + 1 + edges g) w (o .room) };
+  offs = λ v l. getD-take (g .n + 1 + edges g) w v 0 (omega arith) ∙ ap (λ (j : ℕ). getD w j 0) (omega arith) ∙ a .index .offs v l;
 }
 
 -- The edge numbers, the counts, an empty set of edges gone, and the queue: peeling may begin.

@@ -8,17 +8,15 @@ use mathlib.Core.List.{List}
 use borrow.Author.Tests.{eq-eqb, ne-eqb}
 use Rattle.graph.specs.Graph.{Graph, from, to}
 use Rattle.graph.specs.Checker.{at}
-use Rattle.ranks.specs.Ranks.{lead, rise}
+use Rattle.ranks.specs.Ranks.{lead, riseOf, rise}
 
 -- an edge raises the rank exactly if it changes the label
-module _ (g : Graph) (lab : List ℕ) (e : ℕ) where
-  pub rise-change : (rise g lab e ≡ 0 → ⊥) → at lab (from g e) ≡ at lab (to g e) → ⊥
-  unfolding rise
+module _ (lab : List ℕ) (u v : ℕ) where
+  pub rise-change : (riseOf lab u v ≡ 0 → ⊥) → at lab u ≡ at lab v → ⊥
   rise-change o s = o (rw (eq-eqb _ _ s))
 
-  pub rise-same : rise g lab e ≡ 0 → at lab (from g e) ≡ at lab (to g e)
-  unfolding rise
-  rise-same z = elim (ℕ-discrete (at lab (from g e)) (at lab (to g e))) as (λ _. at lab (from g e) ≡ at lab (to g e)) [
+  pub rise-same : riseOf lab u v ≡ 0 → at lab u ≡ at lab v
+  rise-same z = elim (ℕ-discrete (at lab u) (at lab v)) as (λ _. at lab u ≡ at lab v) [
     | yes s ↦ s
     | no o ↦ let q : _≡_ {A = ℕ} 1 0 = rw (ne-eqb _ _ o) at z in absurd (omega arith)
   ]

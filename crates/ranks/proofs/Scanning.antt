@@ -71,7 +71,7 @@ module _ {g : Graph} {lab : List ℕ} {b s t u k₀ : ℕ} {w₀ : List ℕ} (a 
     pub scan-edge-low : getD w (g .n + 1 + j) 0 < edges g
     scan-edge-low = rw read-edge (a .row j l h .0)
 
-    pub scan-ask : SettleAsk g lab b (getD w (g .n + 1 + j) 0) k w
+    pub scan-ask : SettleAsk g lab b u (getD w (g .n + 1 + j) 0) k w
     scan-ask =
         record {
           ground =
@@ -93,12 +93,13 @@ module _ {g : Graph} {lab : List ℕ} {b s t u k₀ : ℕ} {w₀ : List ℕ} (a 
                 top-low = a .course .top-low;
               };
           low = scan-edge-low;
+          leaves = rw read-edge (a .row j l h .1);
           fresh = rw read-edge (extends-fresh (a .course .done) row (j - s) (getD w₀ (g .n + 1 + j) 0) (a .row j l h .2) (λ i m q. omega (arith, a .rising (s + i) j (omega arith) (omega arith) h)));
           source = rw (read-edge, a .row j l h .1) (x .onward .still u (a .vertex) (a .source) .0);
           bound = rw (read-edge, a .row j l h .1) (let q = x .onward .still u (a .vertex) (a .source) .1 in omega (arith, a .bound));
         }
 
-    pub scan-step : (w′ : List ℕ) (k′ : ℕ) → AfterSettle g lab b (getD w (g .n + 1 + j) 0) k w w′ k′ → Scanned g lab b s (j + 1) k₀ w₀ w′ k′ (a .course)
+    pub scan-step : (w′ : List ℕ) (k′ : ℕ) → AfterSettle g lab b u (getD w (g .n + 1 + j) 0) k w w′ k′ → Scanned g lab b s (j + 1) k₀ w₀ w′ k′ (a .course)
     unfolding scan-ask extends
     scan-step w′ k′ f =
         let y = f scan-ask in

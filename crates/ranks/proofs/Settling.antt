@@ -2,7 +2,7 @@
 use Prim.Native.Nat.{ℕ, _+_, _≤_, _<_}
 use native.Mathlib.Omega.{arith}
 use native.Mathlib.Decide.{ℕ-discrete, decLt}
-use mathlib.Core.Path.{_≡_, refl, sym, _∙_}
+use mathlib.Core.Path.{_≡_, refl, sym, ap, _∙_}
 use mathlib.Core.Logic.{_⊎_, inl, inr, by-cases}
 use mathlib.Core.List.{List}
 use lib.ListN.{length, getD, set, length-set}
@@ -11,12 +11,12 @@ use borrow.Author.Tests.{eq-eqb, ne-eqb}
 use Rattle.graph.specs.Graph.{Graph, Valid, edges, from, to}
 use Rattle.graph.specs.Checker.{at}
 use Rattle.regions.specs.Regions.{region, queueAt, inEdges, ranksAt, countsAt, Raised}
-use Rattle.ranks.specs.Ranks.{lead, rise}
-use Rattle.ranks.specs.Peel.{Ranking, SettleAsk, Onward, Settled}
+use Rattle.ranks.specs.Ranks.{leadOf, lead, riseOf, rise}
+use Rattle.ranks.specs.Peel.{Ranking, LeadAsk, SettleAsk, Onward, Settled}
 use Rattle.ranks.proofs.Leads.{lead-change, lead-in, lead-none}
 use Rattle.ranks.proofs.Peeling.{goes-alone, waits-yet, goes, room-left}
 
-pub rise-low : (g : Graph) (lab : List ℕ) (e : ℕ) → rise g lab e ≤ 1
+rise-low : (g : Graph) (lab : List ℕ) (e : ℕ) → rise g lab e ≤ 1
 unfolding rise
 rise-low g lab e = by-cases (ℕ-discrete (at lab (from g e)) (at lab (to g e))) (λ q. rw (eq-eqb _ _ q) (omega arith)) (λ o. rw (ne-eqb _ _ o) (omega arith))
 
@@ -56,7 +56,31 @@ onward-more f h =
       still = λ v l z. let (a, p) = f .still v l z in let (c, q) = h .still v l a in (c, q ∙ p);
     }
 
-module _ {g : Graph} {lab : List ℕ} {b e k : ℕ} {w : List ℕ} (a : SettleAsk g lab b e k w) where
+module _ {g : Graph} {lab : List ℕ} {b u e k : ℕ} {w : List ℕ} (a : SettleAsk g lab b u e k w) where
+  pub leaves-low : u < g .n
+  leaves-low = omega (arith, a .leaves, a .ground .valid .from-low e (a .low))
+
+  pub lead-ask : LeadAsk lab (g .n) b u (to g e) w
+  lead-ask =
+      let enters = a .ground .valid .to-low e (a .low) in
+      record {
+        ends = record { leaves = omega (arith, leaves-low, a .ground .size); enters = omega (arith, a .ground .size) };
+        vertex = enters;
+        fits = a .ground .fits;
+      }
+
+  -- what is told of the ends u and v is told of the edge
+  pub lead-told : (t : ℕ) → t ≡ leadOf (g .n) lab (region (inEdges (g .n) b) w) u (to g e) e → t ≡ lead g lab (region (inEdges (g .n) b) w) e
+  unfolding lead
+  lead-told t q = rw (a .leaves) q
+
+  pub sum-told : (r : ℕ) → r ≡ riseOf lab u (to g e) → region (ranksAt (g .n) b) w u + r ≡ region (ranksAt (g .n) b) w (from g e) + rise g lab e
+  unfolding rise
+  sum-told r q = rw (a .leaves) (ap (λ (y : ℕ). region (ranksAt (g .n) b) w u + y) q)
+
+  pub sum-low : (r : ℕ) → r ≡ riseOf lab u (to g e) → region (ranksAt (g .n) b) w u + r ≤ g .n
+  sum-low r q = omega (arith, sum-told r q, a .bound, a .course .top-low, rise-low g lab e)
+
   -- what the code reads is what waits
   pub lead-read : lead g lab (region (inEdges (g .n) b) w) e ≡ lead g lab (a .course .inEdge) e
   lead-read = lead-same g lab (region (inEdges (g .n) b) w) (a .course .inEdge) e (a .course .holds (to g e) (a .ground .valid .to-low e (a .low)))

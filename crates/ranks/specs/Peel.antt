@@ -9,6 +9,7 @@ use lib.Dec.{T, eqb}
 use Rattle.graph.specs.Numbers.{many}
 use Rattle.graph.specs.Memory.{Framed}
 use Rattle.graph.specs.Graph.{Graph, Valid, edges, from}
+use Rattle.graph.specs.Arrows.{Arrows, on}
 use Rattle.graph.specs.Limits.{mostVertices, mostEdges}
 use Rattle.graph.specs.Checker.{at}
 use Rattle.index.specs.Index.{Held, numbered}
@@ -24,9 +25,26 @@ pub record Ground (g : Graph) (lab : List ℕ) (b : ℕ) (w : List ℕ) : Type 0
   pub few : edges g ≤ mostEdges
   pub fits : b + 7 * g .n + 1 ≤ length w
 
-pub record EdgeAsk (g : Graph) (lab : List ℕ) (b e : ℕ) (w : List ℕ) : Type 0 where
-  pub ground : Ground g lab b w
-  pub low : e < edges g
+-- both ends of an edge have labels
+pub record RiseAsk (lab : List ℕ) (u v : ℕ) : Type 0 where
+  pub leaves : u < length lab
+  pub enters : v < length lab
+
+pub record LeadAsk (lab : List ℕ) (n b u v : ℕ) (w : List ℕ) : Type 0 where
+  pub ends : RiseAsk lab u v
+  pub vertex : v < n
+  pub fits : b + 7 * n + 1 ≤ length w
+
+-- a table whose targets are t
+abbrev pub targeted : List ℕ → Arrows → Arrows
+targeted t a = record { m = a .m; src = a .src; tgt = t; counted = a .counted }
+
+-- P holds of some table of n vertices with the targets t, and of all such
+abbrev pub SomeInto : ℕ → List ℕ → (Graph → Type 0) → Type 0
+SomeInto n t P = (a : Arrows) × P (on n (targeted t a))
+
+abbrev pub EveryInto : ℕ → List ℕ → (Graph → Type 0) → Type 0
+EveryInto n t P = (a : Arrows) → P (on n (targeted t a))
 
 -- only the queue, the ranks and the counts may have changed
 pub record Ranking (n b : ℕ) (w w' : List ℕ) : Type 0 where
@@ -49,10 +67,12 @@ pub record Course (g : Graph) (lab : List ℕ) (b k : ℕ) (w : List ℕ) : Type
   pub peels : Peels g lab inEdge done b w k top
   pub top-low : top ≤ g .n
 
-pub record SettleAsk (g : Graph) (lab : List ℕ) (b e k : ℕ) (w : List ℕ) : Type 0 where
+-- edge e leaves u, and has not gone; u waits for nothing
+pub record SettleAsk (g : Graph) (lab : List ℕ) (b u e k : ℕ) (w : List ℕ) : Type 0 where
   pub ground : Ground g lab b w
   pub course : Course g lab b k w
   pub low : e < edges g
+  pub leaves : from g e ≡ u
   pub fresh : course .done e ≡ false
   pub source : region (countsAt (g .n) b) w (from g e) ≡ 0
   pub bound : region (ranksAt (g .n) b) w (from g e) < course .top
@@ -69,8 +89,8 @@ pub record Settled (g : Graph) (lab : List ℕ) (b e k : ℕ) (w w' : List ℕ) 
   pub onward : Onward (g .n) b k w w' k'
   pub peels : Peels g lab (c .inEdge) (extend (c .done) e) b w' k' (c .top)
 
-abbrev pub AfterSettle : Graph → List ℕ → (b e k : ℕ) → List ℕ → List ℕ → ℕ → Type 0
-AfterSettle g lab b e k w w' k' = (a : SettleAsk g lab b e k w) → Settled g lab b e k w w' k' (a .course)
+abbrev pub AfterSettle : Graph → List ℕ → (b u e k : ℕ) → List ℕ → List ℕ → ℕ → Type 0
+AfterSettle g lab b u e k w w' k' = (a : SettleAsk g lab b u e k w) → Settled g lab b e k w w' k' (a .course)
 
 -- the edge numbers at the places s .. t - 1 are those of u, which waits for nothing
 pub record ScanAsk (g : Graph) (lab : List ℕ) (b s t u k : ℕ) (w : List ℕ) : Type 0 where
@@ -145,10 +165,11 @@ pub record Frees (n b e : ℕ) (w w' : List ℕ) (k : ℕ) : Type 0 where
   pub listed : (v : ℕ) → v < e → region (countsAt n b) w v ≡ 0 → (i : ℕ) × (i < k) × (region (queueAt n b) w' i ≡ v)
   pub once : (i j : ℕ) → i < j → j < k → region (queueAt n b) w' i ≡ region (queueAt n b) w' j → ⊥
 
--- every edge counts, and there is room for the edge numbers at the front
+-- every edge counts, and the front holds the neighbours, whose place the edge numbers take
 pub record RanksAsk (g : Graph) (lab : List ℕ) (b : ℕ) (w : List ℕ) : Type 0 where
   pub ground : Ground g lab b w
   pub counts : (e : ℕ) → T (g .counted e)
+  pub index : Held g 0 w
   pub below : g .n + 1 + edges g ≤ b
 
 -- The front may have changed, the queue, the ranks and the counts. All have gone, and the ranks are found; or some stay, whatever the counts.

@@ -9,14 +9,21 @@ use Rattle.graph.specs.Graph.{Graph, edges, from, to}
 use Rattle.graph.specs.Numbers.{many}
 use Rattle.graph.specs.Checker.{at}
 
--- the vertex that waits for edge e, n if none does
-unfoldable pub lead : Graph → List ℕ → (ℕ → ℕ) → ℕ → ℕ
-lead g lab inEdge e =
-    cond (eqb (at lab (from g e)) (at lab (to g e))) (cond (eqb (inEdge (to g e)) e) (to g e) (g .n)) (at lab (to g e))
+-- of n vertices the one that waits for edge e from u to v, n if none does
+abbrev pub leadOf : ℕ → List ℕ → (ℕ → ℕ) → (u v e : ℕ) → ℕ
+leadOf n lab inEdge u v e = cond (eqb (at lab u) (at lab v)) (cond (eqb (inEdge v) e) v n) (at lab v)
 
--- by how much edge e raises the rank
+-- the vertex that waits for edge e of g
+unfoldable pub lead : Graph → List ℕ → (ℕ → ℕ) → ℕ → ℕ
+lead g lab inEdge e = leadOf (g .n) lab inEdge (from g e) (to g e) e
+
+-- by how much an edge from u to v raises the rank
+abbrev pub riseOf : List ℕ → (u v : ℕ) → ℕ
+riseOf lab u v = cond (eqb (at lab u) (at lab v)) 0 1
+
+-- by how much edge e of g raises the rank
 unfoldable pub rise : Graph → List ℕ → ℕ → ℕ
-rise g lab e = cond (eqb (at lab (from g e)) (at lab (to g e))) 0 1
+rise g lab e = riseOf lab (from g e) (to g e)
 
 -- the number of edges that v still waits for, where those of done are gone
 unfoldable pub awaited : Graph → List ℕ → (ℕ → ℕ) → (ℕ → Bool) → ℕ → ℕ

@@ -2,25 +2,16 @@
 ghost use mathlib.Core.Path.{_≡_};
 ghost use Rattle.graph.specs.Graph.{graph};
 ghost use Rattle.regions.specs.Regions.{region, inEdges};
-ghost use Rattle.ranks.specs.Ranks.{lead, rise};
-ghost use Rattle.ranks.specs.Peel.{Ground, Counted, FreeAsk, Freed, FreesAsk, Frees, RanksAsk, Ranked, EdgeAsk, SettleAsk, AfterSettle, ScanAsk, AfterScan, PeelAsk, AfterPeel};
+ghost use Rattle.ranks.specs.Ranks.{leadOf, riseOf};
+ghost use Rattle.ranks.specs.Peel.{Ground, Counted, FreeAsk, Freed, FreesAsk, Frees, RanksAsk, Ranked, RiseAsk, LeadAsk, SomeInto, EveryInto, SettleAsk, AfterSettle, ScanAsk, AfterScan, PeelAsk, AfterPeel};
 use index::build;
 
-// The vertex that waits for edge e, n if none does.
-fn lead(
-    sources: &[u32],
-    targets: &[u32],
-    n: usize,
-    label: &[u32],
-    w: &[u32],
-    b: usize,
-    e: usize,
-) -> usize
-    requires { ⌜ EdgeAsk (graph n (now sources) (now targets)) (now label) b e (now w) ⌝ }
-    ensures { λ r. ⌜ r ≡ lead (graph n (now (sources .entry)) (now (targets .entry))) (now (label .entry)) (region (inEdges n b) (now (w .entry))) e ⌝ }
+// The vertex that waits for edge e from u to v, n if none does.
+fn lead(n: usize, label: &[u32], w: &[u32], b: usize, u: usize, v: usize, e: usize) -> usize
+    requires { ⌜ LeadAsk (now label) n b u v (now w) ⌝ }
+    ensures { λ r. ⌜ r ≡ leadOf n (now (label .entry)) (region (inEdges n b) (now (w .entry))) u v e ⌝ }
 {
-    let v = targets[e] as usize;
-    if rise(sources, targets, n, label, w, b, e) != 0 {
+    if rise(label, u, v) != 0 {
         return label[v] as usize;
     }
     let x = w[b + 3 * n + v] as usize;
@@ -38,7 +29,9 @@ fn counts(sources: &[u32], targets: &[u32], n: usize, label: &[u32], w: &mut [u3
     regions::fill(w, b + 6 * n, n + 1, 0);
     let mut e = 0;
     while e < sources.len() {
-        let t = lead(sources, targets, n, label, w, b, e);
+        let u = sources[e] as usize;
+        let v = targets[e] as usize;
+        let t = lead(n, label, w, b, u, v, e);
         w[b + 6 * n + t] = w[b + 6 * n + t] + 1;
         e += 1;
     }
@@ -70,47 +63,37 @@ fn frees(w: &mut [u32], n: usize, b: usize) -> usize
     k
 }
 
-// By how much edge e raises the rank.
-fn rise(
-    sources: &[u32],
-    targets: &[u32],
-    n: usize,
-    label: &[u32],
-    w: &[u32],
-    b: usize,
-    e: usize,
-) -> u32
-    requires { ⌜ EdgeAsk (graph n (now sources) (now targets)) (now label) b e (now w) ⌝ }
-    ensures { λ r. ⌜ r ≡ rise (graph n (now (sources .entry)) (now (targets .entry))) (now (label .entry)) e ⌝ }
+// By how much an edge from u to v raises the rank.
+fn rise(label: &[u32], u: usize, v: usize) -> u32
+    requires { ⌜ RiseAsk (now label) u v ⌝ }
+    ensures { λ r. ⌜ r ≡ riseOf (now (label .entry)) u v ⌝ }
 {
-    let u = sources[e] as usize;
-    let v = targets[e] as usize;
     if label[u] == label[v] {
         return 0;
     }
     1
 }
 
-// Edge e goes: the vertex that waits for it is raised, and joins the queue if it waits for no other.
+// Edge e, which leaves u, goes: the vertex that waits for it is raised, and joins the queue if it waits for no other.
 fn settle(
-    sources: &[u32],
     targets: &[u32],
     n: usize,
     label: &[u32],
     w: &mut [u32],
     b: usize,
+    u: usize,
     e: usize,
     k: usize,
 ) -> usize
-    requires { ⌜ SettleAsk (graph n (now sources) (now targets)) (now label) b e k (now w) ⌝ }
-    ensures { λ k'. ⌜ AfterSettle (graph n (now (sources .entry)) (now (targets .entry))) (now (label .entry)) b e k (now (w .entry)) (now (w .exit)) k' ⌝ }
+    requires { ⌜ SomeInto n (now targets) (λ g. SettleAsk g (now label) b u e k (now w)) ⌝ }
+    ensures { λ k'. ⌜ EveryInto n (now (targets .entry)) (λ g. AfterSettle g (now (label .entry)) b u e k (now (w .entry)) (now (w .exit)) k') ⌝ }
 {
-    let t = lead(sources, targets, n, label, w, b, e);
+    let v = targets[e] as usize;
+    let t = lead(n, label, w, b, u, v, e);
     if t == n {
         return k;
     }
-    let u = sources[e] as usize;
-    let x = w[b + 5 * n + u] + rise(sources, targets, n, label, w, b, e);
+    let x = w[b + 5 * n + u] + rise(label, u, v);
     regions::raise(w, b + 5 * n + t, x);
     let c = w[b + 6 * n + t] - 1;
     w[b + 6 * n + t] = c;
@@ -123,7 +106,6 @@ fn settle(
 
 // The edges whose numbers stand at the places s .. t - 1 go; they leave u.
 fn scan(
-    sources: &[u32],
     targets: &[u32],
     n: usize,
     label: &[u32],
@@ -134,31 +116,23 @@ fn scan(
     u: usize,
     k0: usize,
 ) -> usize
-    requires { ⌜ ScanAsk (graph n (now sources) (now targets)) (now label) b s t u k0 (now w) ⌝ }
-    ensures { λ k'. ⌜ AfterScan (graph n (now (sources .entry)) (now (targets .entry))) (now (label .entry)) b s t u k0 (now (w .entry)) (now (w .exit)) k' ⌝ }
+    requires { ⌜ SomeInto n (now targets) (λ g. ScanAsk g (now label) b s t u k0 (now w)) ⌝ }
+    ensures { λ k'. ⌜ EveryInto n (now (targets .entry)) (λ g. AfterScan g (now (label .entry)) b s t u k0 (now (w .entry)) (now (w .exit)) k') ⌝ }
 {
     let mut k = k0;
     let mut j = s;
     while j < t {
         let e = w[n + 1 + j] as usize;
-        k = settle(sources, targets, n, label, w, b, e, k);
+        k = settle(targets, n, label, w, b, u, e, k);
         j += 1;
     }
     k
 }
 
 // The vertices of the queue are taken one after the other, with the edges that leave them. The queue's length.
-fn peel(
-    sources: &[u32],
-    targets: &[u32],
-    n: usize,
-    label: &[u32],
-    w: &mut [u32],
-    b: usize,
-    k0: usize,
-) -> usize
-    requires { ⌜ PeelAsk (graph n (now sources) (now targets)) (now label) b k0 (now w) ⌝ }
-    ensures { λ k'. ⌜ AfterPeel (graph n (now (sources .entry)) (now (targets .entry))) (now (label .entry)) b k0 (now (w .entry)) (now (w .exit)) k' ⌝ }
+fn peel(targets: &[u32], n: usize, label: &[u32], w: &mut [u32], b: usize, k0: usize) -> usize
+    requires { ⌜ SomeInto n (now targets) (λ g. PeelAsk g (now label) b k0 (now w)) ⌝ }
+    ensures { λ k'. ⌜ EveryInto n (now (targets .entry)) (λ g. AfterPeel g (now (label .entry)) b k0 (now (w .entry)) (now (w .exit)) k') ⌝ }
 {
     let mut k = k0;
     let mut h = 0;
@@ -166,13 +140,13 @@ fn peel(
         let u = w[b + 2 * n + h] as usize;
         let s = w[u] as usize;
         let t = w[u + 1] as usize;
-        k = scan(sources, targets, n, label, w, b, s, t, u, k);
+        k = scan(targets, n, label, w, b, s, t, u, k);
         h += 1;
     }
     k
 }
 
-// The ranks; false if some vertex never goes. The front of w becomes the numbers of the edges by their sources.
+// The ranks; false if some vertex never goes. At the front of w the forward neighbours give way to the numbers of their edges.
 pub fn ranks(
     sources: &[u32],
     targets: &[u32],
@@ -185,10 +159,10 @@ pub fn ranks(
     ensures { λ r. ⌜ Ranked (graph n (now (sources .entry)) (now (targets .entry))) (now (label .entry)) b (now (w .entry)) (now (w .exit)) r ⌝ }
 {
     let k = n + 1 + sources.len();
-    build::numbers(sources, n, &mut w[..k]);
+    build::renumber(sources, n, &mut w[..k]);
     regions::fill(w, b + 5 * n, n, 0);
     counts(sources, targets, n, label, w, b);
     let h = frees(w, n, b);
-    let all = peel(sources, targets, n, label, w, b, h);
+    let all = peel(targets, n, label, w, b, h);
     all == n
 }

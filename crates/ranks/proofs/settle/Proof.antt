@@ -2,13 +2,23 @@ use Prim.Native.Nat.{_-_}
 use native.Mathlib.Omega.{arith}
 use lib.ListN.{length-set}
 use borrow.Author.Needs.{needs}
-use Rattle.graph.specs.Graph.{graph}
-use Rattle.ranks.proofs.Settling.{settle-none, t-low, queue-room, count-some, settle-stay, settle-join, rise-low}
+use Rattle.ranks.proofs.Settling.{settle-none, t-low, queue-room, count-some, settle-stay, settle-join, leaves-low, lead-ask, lead-told, sum-told, sum-low}
 use Rattle.ranks.proofs.settle.Statement.{statement}
 use Rattle.ranks.proofs.settle.Tie as tie
 
+mul-v : tie.Need-mul-v
+mul-v c = omega (arith, c .before .before .before .pre .1 .ground .valid .same, c .before .before .before .pre .1 .low)
+
+shared-slice-read-v : tie.Need-shared-slice-read-v
+shared-slice-read-v c = omega (arith, c .before .before .before .before .pre .1 .ground .valid .same, c .before .before .before .before .pre .1 .low)
+
+cast-v : tie.Need-cast-v
+cast-v c =
+    let start = c .before .before .before .before in
+    omega (arith, c .shared-slice-known3 .given (start .args .e))
+
 lead-requires : tie.Need-lead-requires
-lead-requires c κs = search needs
+lead-requires c κs = lead-ask (c .before .before .before .before .before .pre .1)
 
 same-length : tie.Need-same-length
 same-length c = search needs
@@ -16,18 +26,7 @@ same-length c = search needs
 returns : tie.Need-returns
 returns c =
     let at-lead = c .before in
-    λ a. settle-none a (at-lead .lead .result) (at-lead .lead .ensures) (c .if1 .taken)
-
-mul-u : tie.Need-mul-u
-mul-u c = search needs
-
-shared-slice-read-u : tie.Need-shared-slice-read-u
-shared-slice-read-u c = search needs
-
-cast-u : tie.Need-cast-u
-cast-u c =
-    let start = c .before .before .before .before .before .before .before .before in
-    omega (arith, c .shared-slice-known4 .given (start .args .e))
+    λ g a. settle-none a (at-lead .lead .result) (lead-told a _ (at-lead .lead .ensures)) (c .if1 .taken)
 
 mul-x : tie.Need-mul-x
 mul-x c = search needs
@@ -37,26 +36,26 @@ add-x c = search needs
 
 add-x-2 : tie.Need-add-x-2
 add-x-2 c =
-    let start = c .before .before .before .before .before .before .before .before in
-    omega (arith, start .pre .ground .fits, start .pre .ground .small, start .pre .ground .valid .from-low (start .args .e) (start .pre .low))
+    let start = c .before .before .before .before .before .before .before in
+    omega (arith, start .pre .1 .ground .fits, start .pre .1 .ground .small, leaves-low (start .pre .1))
 
 mul-x-2 : tie.Need-mul-x-2
 mul-x-2 c =
-    let start = c .before .before .before .before .before .before .before .before in
-    omega (arith, start .pre .ground .fits, start .pre .ground .small, start .pre .ground .valid .from-low (start .args .e) (start .pre .low))
+    let start = c .before .before .before .before .before .before .before in
+    omega (arith, start .pre .1 .ground .fits, start .pre .1 .ground .small, leaves-low (start .pre .1))
 
 slice-read-x : tie.Need-slice-read-x
 slice-read-x c =
-    let start = c .before .before .before .before .before .before .before .before .before in
-    omega (arith, start .pre .ground .fits, start .pre .ground .small, start .pre .ground .valid .from-low (start .args .e) (start .pre .low))
+    let start = c .before .before .before .before .before .before .before .before in
+    omega (arith, start .pre .1 .ground .fits, start .pre .1 .ground .small, leaves-low (start .pre .1))
 
 rise-requires : tie.Need-rise-requires
-rise-requires c κs = search needs
+rise-requires c κs = lead-ask (c .before .before .before .before .before .before .before .before .pre .1) .ends
 
 add-x-3 : tie.Need-add-x-3
 add-x-3 c =
-    let start = c .before .before .before .before .before .before .before .before .before .before .before in
-    omega (arith, start .pre .ground .fits, start .pre .ground .small, start .pre .ground .valid .from-low (start .args .e) (start .pre .low), start .pre .bound, start .pre .course .top-low, c .rise .ensures, rise-low (graph (start .args .n) (start .args .sources .now) (start .args .targets .now)) (start .args .label .now) (start .args .e))
+    let start = c .before .before .before .before .before .before .before .before .before in
+    omega (arith, start .pre .1 .ground .small, sum-low (start .pre .1) _ (c .rise .ensures))
 
 mul-raise : tie.Need-mul-raise
 mul-raise c = search needs
@@ -66,17 +65,17 @@ add-raise c = search needs
 
 add-raise-2 : tie.Need-add-raise-2
 add-raise-2 c =
-    let at-if1 = c .before .before .before .before .before in
+    let at-if1 = c .before .before .before in
     let at-lead = at-if1 .before in
     let start = at-lead .before .before .before .before .before .before in
-    omega (arith, start .pre .ground .fits, start .pre .ground .small, start .pre .ground .valid .from-low (start .args .e) (start .pre .low), t-low (start .pre) (at-lead .lead .result) (at-lead .lead .ensures) (at-if1 .if1 .left))
+    omega (arith, start .pre .1 .ground .fits, start .pre .1 .ground .small, leaves-low (start .pre .1), t-low (start .pre .1) (at-lead .lead .result) (lead-told (start .pre .1) _ (at-lead .lead .ensures)) (at-if1 .if1 .left))
 
 raise-requires : tie.Need-raise-requires
 raise-requires c κs =
-    let at-if1 = c .before .before .before .before .before in
+    let at-if1 = c .before .before .before in
     let at-lead = at-if1 .before in
     let start = at-lead .before .before .before .before .before .before in
-    omega (arith, start .pre .ground .fits, start .pre .ground .small, start .pre .ground .valid .from-low (start .args .e) (start .pre .low), t-low (start .pre) (at-lead .lead .result) (at-lead .lead .ensures) (at-if1 .if1 .left))
+    omega (arith, start .pre .1 .ground .fits, start .pre .1 .ground .small, leaves-low (start .pre .1), t-low (start .pre .1) (at-lead .lead .result) (lead-told (start .pre .1) _ (at-lead .lead .ensures)) (at-if1 .if1 .left))
 
 mul-c : tie.Need-mul-c
 mul-c c = search needs
@@ -86,35 +85,35 @@ add-c c = search needs
 
 add-c-2 : tie.Need-add-c-2
 add-c-2 c =
-    let at-if1 = c .before .before .before .before .before .before .before .before in
+    let at-if1 = c .before .before .before .before .before .before in
     let at-lead = at-if1 .before in
     let start = at-lead .before .before .before .before .before .before in
-    omega (arith, start .pre .ground .fits, start .pre .ground .small, start .pre .ground .valid .from-low (start .args .e) (start .pre .low), t-low (start .pre) (at-lead .lead .result) (at-lead .lead .ensures) (at-if1 .if1 .left))
+    omega (arith, start .pre .1 .ground .fits, start .pre .1 .ground .small, leaves-low (start .pre .1), t-low (start .pre .1) (at-lead .lead .result) (lead-told (start .pre .1) _ (at-lead .lead .ensures)) (at-if1 .if1 .left))
 
 mul-c-2 : tie.Need-mul-c-2
 mul-c-2 c =
     let at-raise = c .before .before in
-    let at-if1 = at-raise .before .before .before .before .before .before in
+    let at-if1 = at-raise .before .before .before .before in
     let at-lead = at-if1 .before in
     let start = at-lead .before .before .before .before .before .before in
-    omega (arith, start .pre .ground .fits, start .pre .ground .small, start .pre .ground .valid .from-low (start .args .e) (start .pre .low), t-low (start .pre) (at-lead .lead .result) (at-lead .lead .ensures) (at-if1 .if1 .left), at-raise .raise .ensures .framed .long)
+    omega (arith, start .pre .1 .ground .fits, start .pre .1 .ground .small, leaves-low (start .pre .1), t-low (start .pre .1) (at-lead .lead .result) (lead-told (start .pre .1) _ (at-lead .lead .ensures)) (at-if1 .if1 .left), at-raise .raise .ensures .framed .long)
 
 slice-read-c : tie.Need-slice-read-c
 slice-read-c c =
     let at-raise = c .before .before .before in
-    let at-if1 = at-raise .before .before .before .before .before .before in
+    let at-if1 = at-raise .before .before .before .before in
     let at-lead = at-if1 .before in
     let start = at-lead .before .before .before .before .before .before in
-    omega (arith, start .pre .ground .fits, start .pre .ground .small, start .pre .ground .valid .from-low (start .args .e) (start .pre .low), t-low (start .pre) (at-lead .lead .result) (at-lead .lead .ensures) (at-if1 .if1 .left), at-raise .raise .ensures .framed .long)
+    omega (arith, start .pre .1 .ground .fits, start .pre .1 .ground .small, leaves-low (start .pre .1), t-low (start .pre .1) (at-lead .lead .result) (lead-told (start .pre .1) _ (at-lead .lead .ensures)) (at-if1 .if1 .left), at-raise .raise .ensures .framed .long)
 
 sub-c : tie.Need-sub-c
 sub-c c =
     let at-raise = c .before .before .before in
     let at-rise = at-raise .before .before in
-    let at-if1 = at-rise .before .before .before .before in
+    let at-if1 = at-rise .before .before in
     let at-lead = at-if1 .before in
     let start = at-lead .before .before .before .before .before .before in
-    count-some (start .pre) (at-lead .lead .result) (at-lead .lead .ensures) (at-if1 .if1 .left) _ (omega (arith, at-rise .rise .ensures)) _ (at-raise .raise .ensures)
+    count-some (start .pre .1) (at-lead .lead .result) (lead-told (start .pre .1) _ (at-lead .lead .ensures)) (at-if1 .if1 .left) _ (sum-told (start .pre .1) _ (at-rise .rise .ensures)) _ (at-raise .raise .ensures)
 
 mul-w : tie.Need-mul-w
 mul-w c = search needs
@@ -124,26 +123,26 @@ add-w c = search needs
 
 add-w-2 : tie.Need-add-w-2
 add-w-2 c =
-    let at-if1 = c .before .before .before .before .before .before .before .before .before in
+    let at-if1 = c .before .before .before .before .before .before .before in
     let at-lead = at-if1 .before in
     let start = at-lead .before .before .before .before .before .before in
-    omega (arith, start .pre .ground .fits, start .pre .ground .small, start .pre .ground .valid .from-low (start .args .e) (start .pre .low), t-low (start .pre) (at-lead .lead .result) (at-lead .lead .ensures) (at-if1 .if1 .left))
+    omega (arith, start .pre .1 .ground .fits, start .pre .1 .ground .small, leaves-low (start .pre .1), t-low (start .pre .1) (at-lead .lead .result) (lead-told (start .pre .1) _ (at-lead .lead .ensures)) (at-if1 .if1 .left))
 
 mul-w-2 : tie.Need-mul-w-2
 mul-w-2 c =
     let at-raise = c .before .before .before in
-    let at-if1 = at-raise .before .before .before .before .before .before in
+    let at-if1 = at-raise .before .before .before .before in
     let at-lead = at-if1 .before in
     let start = at-lead .before .before .before .before .before .before in
-    omega (arith, start .pre .ground .fits, start .pre .ground .small, start .pre .ground .valid .from-low (start .args .e) (start .pre .low), t-low (start .pre) (at-lead .lead .result) (at-lead .lead .ensures) (at-if1 .if1 .left), at-raise .raise .ensures .framed .long)
+    omega (arith, start .pre .1 .ground .fits, start .pre .1 .ground .small, leaves-low (start .pre .1), t-low (start .pre .1) (at-lead .lead .result) (lead-told (start .pre .1) _ (at-lead .lead .ensures)) (at-if1 .if1 .left), at-raise .raise .ensures .framed .long)
 
 slice-write-w : tie.Need-slice-write-w
 slice-write-w c =
     let at-raise = c .before .before .before in
-    let at-if1 = at-raise .before .before .before .before .before .before in
+    let at-if1 = at-raise .before .before .before .before in
     let at-lead = at-if1 .before in
     let start = at-lead .before .before .before .before .before .before in
-    omega (arith, start .pre .ground .fits, start .pre .ground .small, start .pre .ground .valid .from-low (start .args .e) (start .pre .low), t-low (start .pre) (at-lead .lead .result) (at-lead .lead .ensures) (at-if1 .if1 .left), at-raise .raise .ensures .framed .long)
+    omega (arith, start .pre .1 .ground .fits, start .pre .1 .ground .small, leaves-low (start .pre .1), t-low (start .pre .1) (at-lead .lead .result) (lead-told (start .pre .1) _ (at-lead .lead .ensures)) (at-if1 .if1 .left), at-raise .raise .ensures .framed .long)
 
 same-length-2 : tie.Need-same-length-2
 same-length-2 c = search needs
@@ -152,17 +151,17 @@ returns-2 : tie.Need-returns-2
 returns-2 c =
     let at-raise = c .before .before .before .before in
     let at-rise = at-raise .before .before in
-    let at-if1 = at-rise .before .before .before .before in
+    let at-if1 = at-rise .before .before in
     let at-lead = at-if1 .before in
     let start = at-lead .before .before .before .before .before .before in
-    λ a. settle-stay a (at-lead .lead .result) (at-lead .lead .ensures) (at-if1 .if1 .left) _ (omega (arith, at-rise .rise .ensures)) _ (at-raise .raise .ensures) _ (omega (arith, count-some (start .pre) (at-lead .lead .result) (at-lead .lead .ensures) (at-if1 .if1 .left) _ (omega (arith, at-rise .rise .ensures)) _ (at-raise .raise .ensures))) (c .if2 .taken)
+    λ g a. settle-stay a (at-lead .lead .result) (lead-told a _ (at-lead .lead .ensures)) (at-if1 .if1 .left) _ (sum-told a _ (at-rise .rise .ensures)) _ (at-raise .raise .ensures) _ (omega (arith, count-some (start .pre .1) (at-lead .lead .result) (lead-told (start .pre .1) _ (at-lead .lead .ensures)) (at-if1 .if1 .left) _ (sum-told (start .pre .1) _ (at-rise .rise .ensures)) _ (at-raise .raise .ensures))) (c .if2 .taken)
 
 cast-w : tie.Need-cast-w
 cast-w c =
-    let at-if1 = c .before .before .before .before .before .before .before .before .before .before in
+    let at-if1 = c .before .before .before .before .before .before .before .before in
     let at-lead = at-if1 .before in
     let start = at-lead .before .before .before .before .before .before in
-    omega (arith, start .pre .ground .fits, start .pre .ground .small, start .pre .ground .valid .from-low (start .args .e) (start .pre .low), t-low (start .pre) (at-lead .lead .result) (at-lead .lead .ensures) (at-if1 .if1 .left))
+    omega (arith, start .pre .1 .ground .fits, start .pre .1 .ground .small, leaves-low (start .pre .1), t-low (start .pre .1) (at-lead .lead .result) (lead-told (start .pre .1) _ (at-lead .lead .ensures)) (at-if1 .if1 .left))
 
 mul-w-3 : tie.Need-mul-w-3
 mul-w-3 c = search needs
@@ -172,32 +171,32 @@ add-w-3 c = search needs
 
 add-w-4 : tie.Need-add-w-4
 add-w-4 c =
-    let at-if1 = c .before .before .before .before .before .before .before .before .before .before in
+    let at-if1 = c .before .before .before .before .before .before .before .before in
     let at-lead = at-if1 .before in
     let start = at-lead .before .before .before .before .before .before in
-    omega (arith, start .pre .ground .fits, start .pre .ground .small, start .pre .ground .valid .from-low (start .args .e) (start .pre .low), queue-room (start .pre) (at-lead .lead .result) (at-lead .lead .ensures) (at-if1 .if1 .left))
+    omega (arith, start .pre .1 .ground .fits, start .pre .1 .ground .small, leaves-low (start .pre .1), queue-room (start .pre .1) (at-lead .lead .result) (lead-told (start .pre .1) _ (at-lead .lead .ensures)) (at-if1 .if1 .left))
 
 mul-w-4 : tie.Need-mul-w-4
 mul-w-4 c =
-    let at-if1 = c .before .before .before .before .before .before .before .before .before .before in
+    let at-if1 = c .before .before .before .before .before .before .before .before in
     let at-lead = at-if1 .before in
     let start = at-lead .before .before .before .before .before .before in
-    omega (arith, start .pre .ground .fits, start .pre .ground .small, start .pre .ground .valid .from-low (start .args .e) (start .pre .low), queue-room (start .pre) (at-lead .lead .result) (at-lead .lead .ensures) (at-if1 .if1 .left))
+    omega (arith, start .pre .1 .ground .fits, start .pre .1 .ground .small, leaves-low (start .pre .1), queue-room (start .pre .1) (at-lead .lead .result) (lead-told (start .pre .1) _ (at-lead .lead .ensures)) (at-if1 .if1 .left))
 
 slice-write-w-2 : tie.Need-slice-write-w-2
 slice-write-w-2 c =
     let at-raise = c .before .before .before .before in
-    let at-if1 = at-raise .before .before .before .before .before .before in
+    let at-if1 = at-raise .before .before .before .before in
     let at-lead = at-if1 .before in
     let start = at-lead .before .before .before .before .before .before in
-    simp length-set (omega (arith, start .pre .ground .fits, start .pre .ground .small, start .pre .ground .valid .from-low (start .args .e) (start .pre .low), t-low (start .pre) (at-lead .lead .result) (at-lead .lead .ensures) (at-if1 .if1 .left), at-raise .raise .ensures .framed .long, queue-room (start .pre) (at-lead .lead .result) (at-lead .lead .ensures) (at-if1 .if1 .left)))
+    simp length-set (omega (arith, start .pre .1 .ground .fits, start .pre .1 .ground .small, leaves-low (start .pre .1), t-low (start .pre .1) (at-lead .lead .result) (lead-told (start .pre .1) _ (at-lead .lead .ensures)) (at-if1 .if1 .left), at-raise .raise .ensures .framed .long, queue-room (start .pre .1) (at-lead .lead .result) (lead-told (start .pre .1) _ (at-lead .lead .ensures)) (at-if1 .if1 .left)))
 
 add-result : tie.Need-add-result
 add-result c =
-    let at-if1 = c .before .before .before .before .before .before .before .before .before .before in
+    let at-if1 = c .before .before .before .before .before .before .before .before in
     let at-lead = at-if1 .before in
     let start = at-lead .before .before .before .before .before .before in
-    omega (arith, start .pre .ground .fits, start .pre .ground .small, start .pre .ground .valid .from-low (start .args .e) (start .pre .low), queue-room (start .pre) (at-lead .lead .result) (at-lead .lead .ensures) (at-if1 .if1 .left))
+    omega (arith, start .pre .1 .ground .fits, start .pre .1 .ground .small, leaves-low (start .pre .1), queue-room (start .pre .1) (at-lead .lead .result) (lead-told (start .pre .1) _ (at-lead .lead .ensures)) (at-if1 .if1 .left))
 
 same-length-3 : tie.Need-same-length-3
 same-length-3 c = search needs
@@ -206,21 +205,21 @@ returns-3 : tie.Need-returns-3
 returns-3 c =
     let at-raise = c .before .before .before .before in
     let at-rise = at-raise .before .before in
-    let at-if1 = at-rise .before .before .before .before in
+    let at-if1 = at-rise .before .before in
     let at-lead = at-if1 .before in
     let start = at-lead .before .before .before .before .before .before in
-    λ a. settle-join a (at-lead .lead .result) (at-lead .lead .ensures) (at-if1 .if1 .left) _ (omega (arith, at-rise .rise .ensures)) _ (at-raise .raise .ensures) _ (omega (arith, count-some (start .pre) (at-lead .lead .result) (at-lead .lead .ensures) (at-if1 .if1 .left) _ (omega (arith, at-rise .rise .ensures)) _ (at-raise .raise .ensures))) (c .if2 .left)
+    λ g a. settle-join a (at-lead .lead .result) (lead-told a _ (at-lead .lead .ensures)) (at-if1 .if1 .left) _ (sum-told a _ (at-rise .rise .ensures)) _ (at-raise .raise .ensures) _ (omega (arith, count-some (start .pre .1) (at-lead .lead .result) (lead-told (start .pre .1) _ (at-lead .lead .ensures)) (at-if1 .if1 .left) _ (sum-told (start .pre .1) _ (at-rise .rise .ensures)) _ (at-raise .raise .ensures))) (c .if2 .left)
 
 pub settle-spec : {M : Type 1} → statement M
 settle-spec =
     tie.close
     (tie.spec
+    mul-v
+    shared-slice-read-v
+    cast-v
     lead-requires
     same-length
     returns
-    mul-u
-    shared-slice-read-u
-    cast-u
     mul-x
     add-x
     add-x-2
