@@ -1,26 +1,23 @@
 -- What is left of the part is its core; what went from a closed part is a component alone.
-use Prim.Native.Nat.{ℕ, _+_, _*_, _≤_, _<_}
+use Prim.Native.Nat.{ℕ, _≤_, _<_}
 use native.Mathlib.Omega.{arith}
-use mathlib.Core.Path.{_≡_, refl, sym, ap, _∙_}
+use mathlib.Core.Path.{_≡_, refl, sym, _∙_}
 use mathlib.Core.Logic.{_⊎_, inl, inr, ⊎-elim}
 use mathlib.Core.List.{List}
-use lib.Dec.{T, eqb, ltb, eqb→eq, ltb→lt}
-use Rattle.graph.specs.Graph.{Graph, Edge, rev, edges}
+use lib.Dec.{T, ltb, eqb→eq, ltb→lt}
+use Rattle.graph.specs.Graph.{Graph, Edge, rev}
 use Rattle.graph.specs.Parts.{Closed, Alone, only, Tight, IsCore}
 use Rattle.graph.specs.Search.{part, core}
 use Rattle.graph.specs.Numbers.{mark}
 use Rattle.graph.proofs.Tests.{and-l, and-r, and-make, eq-T, T-dec}
-use Rattle.graph.proofs.Counts.{many-le, many-mono}
 use Rattle.graph.proofs.Chains.{edge-rev, valid-rev}
 use Rattle.graph.proofs.Trim.{core-is, trimmed-alone}
 use Rattle.paint.specs.Colours.{col}
-use Rattle.trim.specs.Chain.{ord, own, Follows}
-use Rattle.trim.specs.Trim.{hued, live, TrimAsk, Trimmed, revAt, intoAt, outAt}
-use Rattle.trim.specs.Cursor.{Hued, Aimed}
-use Rattle.trim.specs.Prune.{Pruned, PassAsk, Passed, DrainAsk, Drained}
+use Rattle.trim.specs.Trim.{hued, Trimmed, revAt, intoAt, outAt}
+use Rattle.trim.specs.Cursor.{Hued}
+use Rattle.trim.specs.Prune.{Pruned, Passed, DrainAsk, Drained}
 use Rattle.trim.proofs.Walks.{stands-left}
-use Rattle.trim.proofs.Aims.{aim-walking}
-use Rattle.trim.proofs.Steps.{shrinks, pruned-more, aside-more}
+use Rattle.trim.proofs.Steps.{shrinks, pruned-more}
 use borrow.Author.Tests.{lt-ltb}
 
 lt-T : (m n : ℕ) → m < n → T (ltb m n)
@@ -59,71 +56,30 @@ module _ (g : Graph) (b q : ℕ) (w : List ℕ) where
       (λ u i. rw (sym i) ((e, v, refl, y), (e, v, refl, y))) v refl)
 
 -- THE STAGES OF TRIMMING
-module _ {g : Graph} {b h q : ℕ} {w : List ℕ} (a : TrimAsk g b h q w) {w₁ : List ℕ} (m : Aimed (g .n) (edges g) b q (g .n) w w₁) where
-  col₁ : (v : ℕ) → v < g .n → col b w₁ v ≡ col b w v
-  col₁ v l = m .low (b + v) (omega arith)
+module _ {g : Graph} {b q : ℕ} {w w₁ : List ℕ} {k₁ : ℕ} (p : Passed g b q w w₁ k₁) where
+  pub drain-ask : DrainAsk g b q k₁ w₁
+  drain-ask = record { state = p .pruned .state; standing = p .standing }
 
-  live₁ : live (g .n) b q w₁ ≡ live (g .n) b q w
-  live₁ = omega (
-    arith,
-    many-mono (λ u. eqb (col b w₁ u) q) (λ u. eqb (col b w u) q) (g .n) (λ u l e. rw (col₁ u l) at e),
-    many-mono (λ u. eqb (col b w u) q) (λ u. eqb (col b w₁ u) q) (g .n) (λ u l e. rw (col₁ u l) e),
-  )
+  module _ {w₂ : List ℕ} {k₂ : ℕ} (d : Drained g b q k₁ w₁ w₂ k₂) where
+    run : Pruned g b q 0 w w₂ k₂
+    run = pruned-more (p .pruned) (d .pruned)
 
-  pub pass-ask : PassAsk g b h q w₁
-  pass-ask = record {
-    state = record { walking = aim-walking a m; gone = λ i l. absurd (omega arith); room = omega (arith, many-le (λ u. eqb (col b w₁ u) q) (g .n)) };
-    long = omega (arith, a .long, m .long);
-    chain = record {
-      placed = record { low = λ i l. rw (ord₁ i) (a .chain .placed .low i l); all = λ v l. let (i, t, e) = a .chain .placed .all v l in (i, t, ord₁ i ∙ e) };
-      head = record {
-        most = a .chain .head .most;
-        here = λ l. own₁ h l ∙ a .chain .head .here l;
-        none = λ u l e. a .chain .head .none u l (sym (own₁ u (omega (arith, a .chain .head .most))) ∙ e);
-      };
-      next = λ i l e. rw (m .low (b + 2 * g .n + i) (omega arith)) (follow i l (a .chain .next i l (sym (own₁ i l) ∙ e)));
-    };
-  }
-    where
-      ord₁ : (i : ℕ) → ord (g .n) b w₁ i ≡ ord (g .n) b w i
-      ord₁ i = m .high (b + 9 * g .n + 2 + i) (omega arith)
+    -- what is left is tight, so it is in the core
+    left-tight : Tight g (Hued (g .n) b q w₂)
+    left-tight v (l, e) =
+        let (o, i) = d .stands v l e in
+        let (f, x, c, y) = stands-left (rev g) (revAt g) (intoAt g b) b q w₂ (run .state .walking .into) v l i in
+        ((f, x, c, edge-rev (valid-rev (run .state .walking .out .valid)) y), stands-left g 0 (outAt g b) b q w₂ (run .state .walking .out) v l o)
 
-      own₁ : (i : ℕ) → i < g .n → own (g .n) b w₁ i ≡ own (g .n) b w i
-      own₁ i l = ap (col b w₁) (ord₁ i) ∙ col₁ (ord (g .n) b w i) (a .chain .placed .low i l)
+    left-core : (v : ℕ) → v < g .n → col b w₂ v ≡ q → T (mark (core g (hued (g .n) b q w)) v)
+    left-core v l e = core-of g b q w .greatest (Hued (g .n) b q w₂)
+        (λ u (n, c). is-hued (g .n) b q w u (n, shrinks (g .n) b q 0 w w₂ k₂ (run .each) u n c)) left-tight v (l, e)
 
-      follow : (i : ℕ) → i < g .n → {y : ℕ} → Follows (g .n) (own (g .n) b w) i y → Follows (g .n) (own (g .n) b w₁) i y
-      follow i l {y} f = record {
-        more = f .more;
-        most = f .most;
-        same = λ t. own₁ y t ∙ f .same t ∙ sym (own₁ i l);
-        none = λ u s t e. f .none u s t (sym (own₁ u (omega (arith, f .most))) ∙ e ∙ own₁ i l);
-      }
-
-  module _ {w₂ : List ℕ} {k₂ : ℕ} (p : Passed g b q w₁ w₂ k₂) where
-    pub drain-ask : DrainAsk g b q k₂ w₂
-    drain-ask = record { state = p .pruned .state; standing = p .standing }
-
-    module _ {w₃ : List ℕ} {k₃ : ℕ} (d : Drained g b q k₂ w₂ w₃ k₃) where
-      run : Pruned g b q 0 w₁ w₃ k₃
-      run = pruned-more (p .pruned) (d .pruned)
-
-      -- what is left is tight, so it is in the core
-      left-tight : Tight g (Hued (g .n) b q w₃)
-      left-tight v (l, e) =
-          let (o, i) = d .stands v l e in
-          let (f, x, c, y) = stands-left (rev g) (revAt g) (intoAt g b) b q w₃ (run .state .walking .into) v l e i in
-          ((f, x, c, edge-rev (valid-rev (run .state .walking .out .laid .valid)) y), stands-left g 0 (outAt g b) b q w₃ (run .state .walking .out) v l e o)
-
-      left-core : (v : ℕ) → v < g .n → col b w₃ v ≡ q → T (mark (core g (hued (g .n) b q w)) v)
-      left-core v l e = core-of g b q w .greatest (Hued (g .n) b q w₃)
-          (λ u (n, c). is-hued (g .n) b q w u (n, sym (col₁ u n) ∙ shrinks (g .n) b q 0 w₁ w₃ k₃ (run .each) u n c)) left-tight v (l, e)
-
-      pub trim-all : Trimmed g b q w w₃ k₃
-      trim-all = record {
-        stays = λ v l t. run .keeps (mark (core g (hued (g .n) b q w))) (core-of g b q w .tight)
-            (λ u s. let (n, c) = hued-is (g .n) b q w u (core-of g b q w .inside u s) in (n, col₁ u n ∙ c)) v t .1;
-        goes = λ v l e o. ⊎-elim (λ s. absurd (o (left-core v l (s ∙ col₁ v l ∙ e)))) (λ s. s .1) (run .each v l);
-        else = λ v l o. ⊎-elim (λ s. s ∙ col₁ v l) (λ s. absurd (o (sym (col₁ v l) ∙ s .0))) (run .each v l);
-        gone = omega (arith, run .sum, live₁);
-        aside = aside-more (record { low = λ j n. m .low j (omega arith); mid = λ j n c. m .low j c; high = λ j n. m .high j n; long = m .long }) (run .aside);
-      }
+    pub trim-all : Trimmed g b q w w₂ k₂
+    trim-all = record {
+      stays = λ v l t. run .keeps (mark (core g (hued (g .n) b q w))) (core-of g b q w .tight) (λ u s. hued-is (g .n) b q w u (core-of g b q w .inside u s)) v t .1;
+      goes = λ v l e o. ⊎-elim (λ s. absurd (o (left-core v l (s ∙ e)))) (λ s. s .1) (run .each v l);
+      else = λ v l o. ⊎-elim (λ s. s) (λ s. absurd (o (s .0))) (run .each v l);
+      gone = omega (arith, run .sum);
+      aside = run .aside;
+    }

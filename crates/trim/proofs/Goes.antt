@@ -1,5 +1,5 @@
 -- A vertex is examined: it stays, or it goes.
-use Prim.Native.Nat.{ℕ, suc, _+_, _≤_, _<_}
+use Prim.Native.Nat.{ℕ, _+_, _≤_, _<_}
 use native.Mathlib.Omega.{arith}
 use native.Mathlib.Decide.{ℕ-discrete}
 use mathlib.Core.Path.{_≡_, sym, ap, _∙_}
@@ -15,21 +15,20 @@ use Rattle.graph.specs.Search.{part}
 use Rattle.graph.proofs.Tests.{eq-T}
 use Rattle.graph.proofs.Counts.{many-mono, many-more, many-one}
 use Rattle.graph.proofs.Chains.{edge-rev}
-use Rattle.index.specs.Index.{first}
 use Rattle.paint.specs.Colours.{col, que}
 use Rattle.trim.specs.Trim.{live, revAt, intoAt, outAt, Aside}
-use Rattle.trim.specs.Cursor.{cur, ahead, Walking, Tied, TiedAsk, Hued}
-use Rattle.trim.specs.Prune.{Each, ExamineAsk, Examined}
-use Rattle.trim.proofs.Walks.{side-kept, ahead-low}
-use Rattle.trim.proofs.Steps.{pruned-none}
+use Rattle.trim.specs.Cursor.{cur, Walking, Tied, TiedAsk, Hued}
+use Rattle.trim.specs.Prune.{Each, Fresh, ExamineAsk, Examined}
+use Rattle.trim.proofs.Ties.{walking-kept}
+use Rattle.trim.proofs.Steps.{stands-fresh, pruned-none}
 
 -- it is not in the part any more
-pub examine-skip : {g : Graph} {b v q k : ℕ} {w : List ℕ} → ExamineAsk g b v q k w → (col b w v ≡ q → ⊥) → Examined g b v q k w w k
+pub examine-skip : {g : Graph} {b v ob ib q k : ℕ} {w : List ℕ} → ExamineAsk g b v ob ib q k w → (col b w v ≡ q → ⊥) → Examined g b v q k w w k
 examine-skip a o = record { pruned = pruned-none (a .state); stands = λ p. absurd (o p) }
 
-module _ {g : Graph} {b v q k : ℕ} {w : List ℕ} (a : ExamineAsk g b v q k w) (here : col b w v ≡ q) where
-  pub tied-ask : TiedAsk g b v q w
-  tied-ask = record { walking = a .state .walking; low = a .low; live = here }
+module _ {g : Graph} {b v ob ib q k : ℕ} {w : List ℕ} (a : ExamineAsk g b v ob ib q k w) (here : col b w v ≡ q) where
+  pub tied-ask : TiedAsk g b v ob ib q w
+  tied-ask = record { walking = a .state .walking; low = a .low; starts = a .starts here }
 
   pub k-low : k < g .n
   k-low = omega (arith, a .state .room, many-more (λ u. false) (λ u. eqb (col b w u) q) (g .n) (λ i l e. absurd e) v (a .low) (λ e. e) (eq-T (col b w v) q here))
@@ -62,6 +61,9 @@ module _ {g : Graph} {b v q k : ℕ} {w : List ℕ} (a : ExamineAsk g b v q k w)
       long = t .long;
     }
 
+    walking₁ : Walking g b q w₁
+    walking₁ = walking-kept g b q w w₁ (aside₁ .low) (t .long) (a .state .walking)
+
     -- v STAYS
     pub examine-stay : (r ≡ 0 → ⊥) → Examined g b v q k w w₁ k
     examine-stay o =
@@ -69,7 +71,7 @@ module _ {g : Graph} {b v q k : ℕ} {w : List ℕ} (a : ExamineAsk g b v q k w)
         record {
           pruned = record {
             state = record {
-              walking = t .walking;
+              walking = walking₁;
               gone = λ i l. rw (que₁ i l) (let (m, f) = a .state .gone i l in (m, λ p. f (sym (col₁ (que (g .n) b w i) m) ∙ p)));
               room = omega (arith, a .state .room, live₁);
             };
@@ -78,12 +80,12 @@ module _ {g : Graph} {b v q k : ℕ} {w : List ℕ} (a : ExamineAsk g b v q k w)
             front = que₁;
             sum = omega (arith, live₁);
             keeps = λ x h i u m. let (l, p) = i u m in (l, col₁ u l ∙ p);
-            out = λ u l p. elim (ℕ-discrete u v) as (λ _. (cur (outAt g b) w₁ u ≡ cur (outAt g b) w u) ⊎ ((cur (outAt g b) w₁ u < first g (suc u)) × (col b w (ahead g 0 (outAt g b) w₁ u) ≡ q))) [
-              | yes e ↦ rw e (inr (so .before, sym (col₁ (ahead g 0 (outAt g b) w₁ v) (ahead-low g 0 (outAt g b) b q w₁ (t .walking .out) v (a .low) (col₁ v (a .low) ∙ here) (so .before))) ∙ so .inside))
+            out = λ u l p. elim (ℕ-discrete u v) as (λ _. (cur (outAt g b) w₁ u ≡ cur (outAt g b) w u) ⊎ Fresh g 0 (outAt g b) b q w w₁ u) [
+              | yes e ↦ rw e (inr (stands-fresh g 0 (outAt g b) b q w w₁ (walking₁ .out) (λ y h c. sym (col₁ y h) ∙ c) v (a .low) so))
               | no e ↦ inl (out₁ u l e)
             ];
-            into = λ u l p. elim (ℕ-discrete u v) as (λ _. (cur (intoAt g b) w₁ u ≡ cur (intoAt g b) w u) ⊎ ((cur (intoAt g b) w₁ u < first (rev g) (suc u)) × (col b w (ahead (rev g) (revAt g) (intoAt g b) w₁ u) ≡ q))) [
-              | yes e ↦ rw e (inr (si .before, sym (col₁ (ahead (rev g) (revAt g) (intoAt g b) w₁ v) (ahead-low (rev g) (revAt g) (intoAt g b) b q w₁ (t .walking .into) v (a .low) (col₁ v (a .low) ∙ here) (si .before))) ∙ si .inside))
+            into = λ u l p. elim (ℕ-discrete u v) as (λ _. (cur (intoAt g b) w₁ u ≡ cur (intoAt g b) w u) ⊎ Fresh (rev g) (revAt g) (intoAt g b) b q w w₁ u) [
+              | yes e ↦ rw e (inr (stands-fresh (rev g) (revAt g) (intoAt g b) b q w w₁ (walking₁ .into) (λ y h c. sym (col₁ y h) ∙ c) v (a .low) si))
               | no e ↦ inl (into₁ u l e)
             ];
             aside = aside₁;
@@ -103,13 +105,13 @@ module _ {g : Graph} {b v q k : ℕ} {w : List ℕ} (a : ExamineAsk g b v q k w)
 
     own : col b w₂ v ≡ v
     own = getD-set-other (set w₁ (b + v) v) (b + g .n + k) (b + v) v 0 (omega (arith, a .low))
-        ∙ getD-set-same w₁ (b + v) v 0 (omega (arith, a .low, t .walking .long))
+        ∙ getD-set-same w₁ (b + v) v 0 (omega (arith, a .low, walking₁ .long))
 
     away : col b w₂ v ≡ q → ⊥
     away p = omega (arith, own, a .low, a .state .walking .part)
 
     put : que (g .n) b w₂ k ≡ v
-    put = getD-set-same (set w₁ (b + v) v) (b + g .n + k) v 0 (omega (arith, k-low, t .walking .long, length-set w₁ (b + v) v))
+    put = getD-set-same (set w₁ (b + v) v) (b + g .n + k) v 0 (omega (arith, k-low, walking₁ .long, length-set w₁ (b + v) v))
 
     long₂ : length w₂ ≡ length w₁
     long₂ = length-set (set w₁ (b + v) v) (b + g .n + k) v ∙ length-set w₁ (b + v) v
@@ -120,9 +122,6 @@ module _ {g : Graph} {b v q k : ℕ} {w : List ℕ} (a : ExamineAsk g b v q k w)
     left₂ : (u : ℕ) → u < g .n → col b w₂ u ≡ q → (u ≡ v → ⊥)
     left₂ u l p e = away (ap (col b w₂) (sym e) ∙ p)
 
-    less₂ : (u : ℕ) → u < g .n → col b w₂ u ≡ q → col b w₁ u ≡ q
-    less₂ u l p = sym (else₂ (b + u) (λ e. left₂ u l p (omega arith)) (omega arith)) ∙ p
-
     out₂ : (u : ℕ) → u < g .n → cur (outAt g b) w₂ u ≡ cur (outAt g b) w₁ u
     out₂ u l = else₂ (outAt g b + u) (omega (arith, a .low)) (omega (arith, k-low))
 
@@ -130,13 +129,7 @@ module _ {g : Graph} {b v q k : ℕ} {w : List ℕ} (a : ExamineAsk g b v q k w)
     into₂ u l = else₂ (intoAt g b + u) (omega (arith, a .low)) (omega (arith, k-low))
 
     walking₂ : Walking g b q w₂
-    walking₂ = record {
-      out = side-kept g 0 (outAt g b) b q w₁ w₂ (λ j h. else₂ j (omega arith) (omega arith)) (λ u l p. (less₂ u l p, out₂ u l)) (t .walking .out);
-      into = side-kept (rev g) (revAt g) (intoAt g b) b q w₁ w₂ (λ j h. else₂ j (omega arith) (omega arith)) (λ u l p. (less₂ u l p, into₂ u l)) (t .walking .into);
-      small = a .state .walking .small;
-      long = omega (arith, t .walking .long, long₂);
-      part = a .state .walking .part;
-    }
+    walking₂ = walking-kept g b q w₁ w₂ (λ j h. else₂ j (omega arith) (omega arith)) long₂ walking₁
 
     each₂ : Each (g .n) b q k w w₂ (k + 1)
     each₂ u l = elim (ℕ-discrete u v) as (λ _. (col b w₂ u ≡ col b w u) ⊎ ((col b w u ≡ q) × (col b w₂ u ≡ u) × ((i : ℕ) × (k ≤ i) × (i < k + 1) × (que (g .n) b w₂ i ≡ u)))) [
@@ -157,7 +150,7 @@ module _ {g : Graph} {b v q k : ℕ} {w : List ℕ} (a : ExamineAsk g b v q k w)
     loose : r ≡ 0 → (x : ℕ → Bool) → Tight g (part x) → ((u : ℕ) → T (x u) → Hued (g .n) b q w u) → T (x v) → ⊥
     loose z x h i m =
         let ((e, u, n, y), (f, d, c, s)) = h v m in
-        ⊎-elim (λ o. o (f, d, i d c, s)) (λ o. o (e, u, i u n, edge-rev (a .state .walking .out .laid .valid) y)) (t .none z)
+        ⊎-elim (λ o. o (f, d, i d c, s)) (λ o. o (e, u, i u n, edge-rev (a .state .walking .out .valid) y)) (t .none z)
 
     pub examine-go : r ≡ 0 → Examined g b v q k w w₂ (k + 1)
     examine-go z = record {

@@ -1,5 +1,5 @@
 pub mod Walks
-pub mod Aims
+pub mod Along
 pub mod Ties
 pub mod Steps
 pub mod Goes

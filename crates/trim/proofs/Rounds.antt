@@ -6,18 +6,20 @@ use mathlib.Core.Path.{_≡_, refl, sym, ap, _∙_}
 use mathlib.Core.Logic.{_⊎_, inl, inr, ⊎-elim}
 use mathlib.Core.List.{List}
 use lib.ListN.{getD}
+use lib.Dec.{eqb}
+use Rattle.graph.proofs.Counts.{many-le}
 use Rattle.graph.specs.Graph.{Graph, Part, all, rev, edges}
 use Rattle.index.specs.Index.{first}
 use Rattle.paint.specs.Colours.{col, que}
 use Rattle.paint.specs.Paint.{other, Laid}
 use Rattle.trim.specs.Chain.{ord, own, nxt}
-use Rattle.trim.specs.Trim.{revAt, intoAt, outAt}
+use Rattle.trim.specs.Trim.{TrimAsk, revAt, intoAt, outAt}
 use Rattle.trim.specs.Cursor.{ahead, Stands}
-use Rattle.trim.specs.Prune.{Pruning, Pruned, Fresh, Off, Standing, AllStanding, ExamineAsk, Examined, AroundAsk, Around, BesideAsk, Beside, PassAsk}
+use Rattle.trim.specs.Prune.{Pruning, Pruned, Fresh, Sound, Off, Standing, AllStanding, ExamineAsk, Examined, AroundAsk, Around, BesideAsk, Beside}
 use Rattle.index.proofs.Counts.{start-mono}
-use Rattle.trim.proofs.Walks.{last-le, other-low, ends-at}
-use Rattle.trim.proofs.Aims.{Along, along-less}
-use Rattle.trim.proofs.Steps.{shrinks, fresh-kept, standing-kept, stands-fresh, stands-standing, fresh-off, pruned-none, pruned-more}
+use Rattle.trim.proofs.Walks.{last-le, other-low, ends-at, clear-first}
+use Rattle.trim.proofs.Along.{Along, along-less}
+use Rattle.trim.proofs.Steps.{shrinks, fresh-kept, standing-kept, stands-fresh, stands-standing, fresh-off, pruned-none, pruned-more, sound-kept}
 
 -- THE NEIGHBOURS AT THE PLACES OF AN INDEX
 pub around-none : {g : Graph} {eb b i t q k : ℕ} {w : List ℕ} → AroundAsk g eb b i t q k w → Around g eb b i i q k w w k
@@ -31,8 +33,15 @@ module _ {g : Graph} {eb b i₀ t q k₀ : ℕ} {w₀ : List ℕ} (a : AroundAsk
   pub around-low : other w eb i < g .n
   around-low = omega (arith, same-other, a .ends i l h)
 
-  pub around-ask : ExamineAsk g b (other w eb i) q k w
-  around-ask = record { state = z .pruned .state; low = around-low }
+  around-sound : Sound g b q w
+  around-sound = sound-kept (a .state) (z .pruned) (a .sound)
+
+  pub around-ask : ExamineAsk g b (other w eb i) (outAt g b) (intoAt g b) q k w
+  around-ask = record {
+    state = z .pruned .state;
+    low = around-low;
+    starts = λ p. record { high = omega arith; below = omega (arith, around-low); out = around-sound .out (other w eb i) around-low p; into = around-sound .into (other w eb i) around-low p };
+  }
 
   module _ {w' : List ℕ} {k' : ℕ} (e : Examined g b (other w eb i) q k w w' k') where
     less : (u : ℕ) → u < g .n → col b w u ≡ q → col b w₀ u ≡ q
@@ -46,14 +55,14 @@ module _ {g : Graph} {eb b i₀ t q k₀ : ℕ} {w₀ : List ℕ} (a : AroundAsk
 
     old : (x : ℕ) → x < g .n → col b w' x ≡ q → Fresh g 0 (outAt g b) b q w₀ w x × Fresh (rev g) (revAt g) (intoAt g b) b q w₀ w x → Two x
     old x m p (f, d) = (
-      fresh-kept g 0 (outAt g b) b q k w w' k' (z .pruned .state .walking .out) (e .pruned .state .walking .out) (e .pruned .aside .low) (e .pruned .each) (e .pruned .out) x m p w₀ less f,
-      fresh-kept (rev g) (revAt g) (intoAt g b) b q k w w' k' (z .pruned .state .walking .into) (e .pruned .state .walking .into) (e .pruned .aside .low) (e .pruned .each) (e .pruned .into) x m p w₀ less d,
+      fresh-kept g 0 (outAt g b) b q w w' (z .pruned .state .walking .out) (e .pruned .state .walking .out) (e .pruned .aside .low) less' (e .pruned .out) x m p w₀ less f,
+      fresh-kept (rev g) (revAt g) (intoAt g b) b q w w' (z .pruned .state .walking .into) (e .pruned .state .walking .into) (e .pruned .aside .low) less' (e .pruned .into) x m p w₀ less d,
     )
 
-    new : (x : ℕ) → x < g .n → col b w' x ≡ q → Stands g 0 (outAt g b) b q w' x × Stands (rev g) (revAt g) (intoAt g b) b q w' x → Two x
-    new x m p (f, d) = (
-      stands-fresh g 0 (outAt g b) b q w₀ w' (e .pruned .state .walking .out) (λ u n c. less u n (less' u n c)) x m p f,
-      stands-fresh (rev g) (revAt g) (intoAt g b) b q w₀ w' (e .pruned .state .walking .into) (λ u n c. less u n (less' u n c)) x m p d,
+    new : (x : ℕ) → x < g .n → Stands g 0 (outAt g b) b q w' x × Stands (rev g) (revAt g) (intoAt g b) b q w' x → Two x
+    new x m (f, d) = (
+      stands-fresh g 0 (outAt g b) b q w₀ w' (e .pruned .state .walking .out) (λ u n c. less u n (less' u n c)) x m f,
+      stands-fresh (rev g) (revAt g) (intoAt g b) b q w₀ w' (e .pruned .state .walking .into) (λ u n c. less u n (less' u n c)) x m d,
     )
 
     pub around-step : Around g eb b i₀ (i + 1) q k₀ w₀ w' k'
@@ -62,7 +71,7 @@ module _ {g : Graph} {eb b i₀ t q k₀ : ℕ} {w₀ : List ℕ} (a : AroundAsk
       fresh = λ j m n p. elim (ℕ-discrete j i) as (λ _. Two (other w₀ eb j)) [
         | yes y ↦ rw y (
             let c : col b w' (other w₀ eb i) ≡ q = rw y at p in
-            new (other w₀ eb i) (a .ends i l h) c (rw same-other at (e .stands (ap (col b w') same-other ∙ c))))
+            new (other w₀ eb i) (a .ends i l h) (rw same-other at (e .stands (ap (col b w') same-other ∙ c))))
         | no y ↦
             let x = other w₀ eb j in
             let low : x < g .n = a .ends j m (omega arith) in
@@ -71,13 +80,14 @@ module _ {g : Graph} {eb b i₀ t q k₀ : ℕ} {w₀ : List ℕ} (a : AroundAsk
     }
 
 -- in the index of d, which is g or its reverse
-beside-ask : {g d : Graph} {ix b q k : ℕ} {w : List ℕ} (u : ℕ) → Laid d ix b w → d .n ≡ g .n → u < d .n → Pruning g b q k w
+beside-ask : {g d : Graph} {ix b q k : ℕ} {w : List ℕ} (u : ℕ) → Laid d ix b w → d .n ≡ g .n → u < d .n → Pruning g b q k w → Sound g b q w
     → AroundAsk g (ix + d .n + 1) b (getD w (ix + u) 0) (getD w (ix + u + 1) 0) q k w
-beside-ask {g} {d} {ix} {b} {q} {k} {w} u x e l s =
+beside-ask {g} {d} {ix} {b} {q} {k} {w} u x e l s c =
     let f : getD w (ix + u) 0 ≡ first d u = x .index .offs u (omega arith) in
     let t = ends-at d ix b w x u l in
     record {
       state = s;
+      sound = c;
       order = omega (arith, f, t, start-mono (d .counted) (d .src) (edges d) u (suc u) (omega arith));
       below = omega (arith, t, last-le d ix b w x u l, x .below);
       ends = λ j m n. omega (arith, other-low d ix b w x u j l (omega (arith, f)) (omega (arith, t)), e);
@@ -85,19 +95,25 @@ beside-ask {g} {d} {ix} {b} {q} {k} {w} u x e l s =
 
 -- u has gone, and its neighbours in both directions were examined
 pub beside-first : {g : Graph} {b u q k : ℕ} {w : List ℕ} → BesideAsk g b u q k w → AroundAsk g (0 + g .n + 1) b (getD w (0 + u) 0) (getD w (0 + u + 1) 0) q k w
-beside-first {u = u} a = beside-ask u (a .state .walking .out .laid) refl (a .low) (a .state)
+beside-first {u = u} a = beside-ask u (a .state .walking .out) refl (a .low) (a .state) (a .sound)
 
 module _ {g : Graph} {b u q k : ℕ} {w : List ℕ} (a : BesideAsk g b u q k w)
     {w₁ : List ℕ} {k₁ : ℕ} (y : Around g (0 + g .n + 1) b (getD w (0 + u) 0) (getD w (0 + u + 1) 0) q k w w₁ k₁) where
+  sound₁ : Sound g b q w₁
+  sound₁ = sound-kept (a .state) (y .pruned) (a .sound)
+
   pub beside-second : AroundAsk g (revAt g + g .n + 1) b (getD w₁ (revAt g + u) 0) (getD w₁ (revAt g + u + 1) 0) q k₁ w₁
-  beside-second = beside-ask u (y .pruned .state .walking .into .laid) refl (a .low) (y .pruned .state)
+  beside-second = beside-ask u (y .pruned .state .walking .into) refl (a .low) (y .pruned .state) sound₁
 
   module _ {w₂ : List ℕ} {k₂ : ℕ} (z : Around g (revAt g + g .n + 1) b (getD w₁ (revAt g + u) 0) (getD w₁ (revAt g + u + 1) 0) q k₁ w₁ w₂ k₂) where
     fore : Laid g 0 b w
-    fore = a .state .walking .out .laid
+    fore = a .state .walking .out
 
     back : Laid (rev g) (revAt g) b w₁
-    back = y .pruned .state .walking .into .laid
+    back = y .pruned .state .walking .into
+
+    sound₂ : Sound g b q w₂
+    sound₂ = sound-kept (y .pruned .state) (z .pruned) sound₁
 
     less₁ : (v : ℕ) → v < g .n → col b w₁ v ≡ q → col b w v ≡ q
     less₁ = shrinks (g .n) b q k w w₁ k₁ (y .pruned .each)
@@ -110,24 +126,25 @@ module _ {g : Graph} {b u q k : ℕ} {w : List ℕ} (a : BesideAsk g b u q k w)
     targets-fresh j m n p =
         let x = other w (0 + g .n + 1) j in
         let low : x < g .n = other-low g 0 b w fore u j (a .low) m n in
-        fresh-kept (rev g) (revAt g) (intoAt g b) b q k₁ w₁ w₂ k₂ (y .pruned .state .walking .into) (z .pruned .state .walking .into) (z .pruned .aside .low) (z .pruned .each) (z .pruned .into)
+        fresh-kept (rev g) (revAt g) (intoAt g b) b q w₁ w₂ back (z .pruned .state .walking .into) (z .pruned .aside .low) less₂ (z .pruned .into)
         x low p w less₁ (y .fresh j (omega (arith, fore .index .offs u (omega (arith, a .low)))) (omega (arith, ends-at g 0 b w fore u (a .low))) (less₂ x low p) .1)
 
     pub beside-all : Beside g b u q k w w₂ k₂
     beside-all = record {
       pruned = pruned-more (y .pruned) (z .pruned);
-      out = fresh-off g 0 (outAt g b) b q (revAt g) w₁ w₂ u (λ p. a .went (less₁ u (a .low) p)) (z .pruned .state .walking .out) back
+      out = fresh-off g 0 (outAt g b) b q (revAt g) w₁ w₂ u (λ p. a .went (less₁ u (a .low) p)) (z .pruned .state .walking .out) (sound₂ .out) back
           (λ j m n p. z .fresh j (omega (arith, back .index .offs u (omega (arith, a .low)))) (omega (arith, ends-at (rev g) (revAt g) b w₁ back u (a .low))) p .0);
-      into = fresh-off (rev g) (revAt g) (intoAt g b) b q 0 w w₂ u (a .went) (z .pruned .state .walking .into) fore targets-fresh;
+      into = fresh-off (rev g) (revAt g) (intoAt g b) b q 0 w w₂ u (a .went) (z .pruned .state .walking .into) (sound₂ .into) fore targets-fresh;
     }
 
 -- THE QUEUE IS DRAINED
 module _ {g : Graph} {b q : ℕ} (P : Part) (h : ℕ) {k : ℕ} {w w' : List ℕ} {k' : ℕ} (z : Pruned g b q k w w' k') (s : Pruning g b q k w) (le : h ≤ k) where
   pub all-kept : AllStanding g b q P h k w → AllStanding g b q P h k' w'
   all-kept f v m l p =
-      let (o, i) = f v m l (shrinks (g .n) b q k w w' k' (z .each) v l p) in (
-        standing-kept g 0 (outAt g b) b q k w w' k' (s .walking .out) (z .state .walking .out) (z .aside .low) (z .each) (z .out) v l p h le (z .more) (z .front) o,
-        standing-kept (rev g) (revAt g) (intoAt g b) b q k w w' k' (s .walking .into) (z .state .walking .into) (z .aside .low) (z .each) (z .into) v l p h le (z .more) (z .front) i,
+      let less = shrinks (g .n) b q k w w' k' (z .each) in
+      let (o, i) = f v m l (less v l p) in (
+        standing-kept g 0 (outAt g b) b q w w' (s .walking .out) (z .state .walking .out) (z .aside .low) less (z .out) v l p k k' h (z .each) le (z .more) (z .front) o,
+        standing-kept (rev g) (revAt g) (intoAt g b) b q w w' (s .walking .into) (z .state .walking .into) (z .aside .low) less (z .into) v l p k k' h (z .each) le (z .more) (z .front) i,
       )
 
 pub off-standing : (g : Graph) (ix cb b q h k : ℕ) (w : List ℕ) (u v : ℕ) → v < g .n → col b w v ≡ q → que (g .n) b w h ≡ u → Off g ix cb b q u w
@@ -140,10 +157,12 @@ off-standing g ix cb b q h k w u v l p e o s = record {
         | no y ↦ inr (i, omega arith, n, c)
       ])
       (s .inside);
+  clear = s .clear;
 }
 
-pub drain-beside : {g : Graph} {b q k : ℕ} {w : List ℕ} (h : ℕ) → Pruning g b q k w → h < k → BesideAsk g b (que (g .n) b w h) q k w
-drain-beside h s l = let (m, f) = s .gone h l in record { state = s; low = m; went = f }
+pub drain-beside : {g : Graph} {b q k : ℕ} {w : List ℕ} (h : ℕ) → Pruning g b q k w → AllStanding g b q all h k w → h < k → BesideAsk g b (que (g .n) b w h) q k w
+drain-beside h s t l = let (m, f) = s .gone h l in
+    record { state = s; sound = record { out = λ v n p. t v tt n p .0 .clear; into = λ v n p. t v tt n p .1 .clear }; low = m; went = f }
 
 pub drain-step : {g : Graph} {b q k : ℕ} {w w' : List ℕ} {k' : ℕ} (h : ℕ) → Pruning g b q k w → h < k → Beside g b (que (g .n) b w h) q k w w' k'
     → AllStanding g b q all h k w → AllStanding g b q all (h + 1) k' w'
@@ -154,7 +173,7 @@ drain-step {g} {b} {q} {k} {w} {w'} {k'} h s l z f v m n p =
     (off-standing g 0 (outAt g b) b q h k' w' u v n p e (z .out) o, off-standing (rev g) (revAt g) (intoAt g b) b q h k' w' u v n p e (z .into) i)
 
 stands-end : (g : Graph) (ix cb b q h k : ℕ) (w : List ℕ) (v : ℕ) → k ≤ h → Standing g ix cb b q h k w v → Stands g ix cb b q w v
-stands-end g ix cb b q h k w v l s = record { before = s .before; inside = ⊎-elim (λ i. i) (λ (i, m, n, c). absurd (omega arith)) (s .inside) }
+stands-end g ix cb b q h k w v l s = record { before = s .before; inside = ⊎-elim (λ i. i) (λ (i, m, n, c). absurd (omega arith)) (s .inside); clear = s .clear }
 
 pub drain-end : {g : Graph} {b q k : ℕ} {w : List ℕ} (h : ℕ) → k ≤ h → AllStanding g b q all h k w → (v : ℕ) → v < g .n → col b w v ≡ q
     → Stands g 0 (outAt g b) b q w v × Stands (rev g) (revAt g) (intoAt g b) b q w v
@@ -170,7 +189,14 @@ few-gone s = omega (arith, s .room)
 abbrev pub Before : ℕ → ℕ → List ℕ → ℕ → Part
 Before n b w i v = (j : ℕ) × (j < i) × (j < n) × (ord n b w j ≡ v)
 
-module _ {g : Graph} {b h q : ℕ} {w₀ : List ℕ} (a : PassAsk g b h q w₀) where
+module _ {g : Graph} {b h q : ℕ} {w₀ : List ℕ} (a : TrimAsk g b h q w₀) where
+  pub pass-state : Pruning g b q 0 w₀
+  pass-state = record {
+    walking = record { out = a .fwd; into = a .bwd; small = a .small; long = omega (arith, a .long); part = a .part };
+    gone = λ i l. absurd (omega arith);
+    room = omega (arith, many-le (λ u. eqb (col b w₀ u) q) (g .n));
+  }
+
   pub pass-none : AllStanding g b q (Before (g .n) b w₀ h) 0 0 w₀
   pass-none v (j, m, n, e) l p = absurd (a .chain .head .none j m (ap (col b w₀) e ∙ p))
 
@@ -187,8 +213,17 @@ module _ {g : Graph} {b h q : ℕ} {w₀ : List ℕ} (a : PassAsk g b h q w₀) 
     pub pass-low : getD w (b + 9 * g .n + 2 + i) 0 < g .n
     pass-low = omega (arith, pass-place, a .chain .placed .low i l)
 
-    pub pass-examine : ExamineAsk g b (getD w (b + 9 * g .n + 2 + i) 0) q k w
-    pass-examine = record { state = z .state; low = pass-low }
+    pub pass-examine : ExamineAsk g b (getD w (b + 9 * g .n + 2 + i) 0) 0 (revAt g) q k w
+    pass-examine = record {
+      state = z .state;
+      low = pass-low;
+      starts = λ _. record {
+        high = omega arith;
+        below = omega (arith, a .bwd .below);
+        out = clear-first g 0 b q w (z .state .walking .out) (getD w (b + 9 * g .n + 2 + i) 0) pass-low;
+        into = clear-first (rev g) (revAt g) b q w (z .state .walking .into) (getD w (b + 9 * g .n + 2 + i) 0) pass-low;
+      };
+    }
 
     pub pass-step : {w' : List ℕ} {k' : ℕ} → Examined g b (getD w (b + 9 * g .n + 2 + i) 0) q k w w' k'
         → AllStanding g b q (Before (g .n) b w₀ i) 0 k w → AllStanding g b q (Before (g .n) b w₀ (nxt (g .n) b w₀ i)) 0 k' w'

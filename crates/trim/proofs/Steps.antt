@@ -12,9 +12,9 @@ use Rattle.index.proofs.Counts.{found}
 use Rattle.paint.specs.Colours.{col, que}
 use Rattle.paint.specs.Paint.{other, Laid}
 use Rattle.trim.specs.Trim.{revAt, intoAt, outAt, Aside}
-use Rattle.trim.specs.Cursor.{cur, ahead, Stands, Side}
-use Rattle.trim.specs.Prune.{Pruning, Pruned, Each, Moved, Fresh, Off, Standing}
-use Rattle.trim.proofs.Walks.{place-edge, ahead-same, ahead-low}
+use Rattle.trim.specs.Cursor.{cur, ahead, Clear, Stands}
+use Rattle.trim.specs.Prune.{Pruning, Pruned, Each, Moved, Fresh, Sound, Off, Standing}
+use Rattle.trim.proofs.Walks.{clear-kept, place-edge, ahead-same, ahead-low}
 
 pub aside-none : (n b : ℕ) (w : List ℕ) → Aside n b w w
 aside-none n b w = record { low = λ j h. refl; mid = λ j h l. refl; high = λ j h. refl; long = refl }
@@ -38,60 +38,76 @@ remains n b q k w w' k' e v l p = ⊎-elim (λ s. inl (s ∙ p)) (λ s. inr (s .
 
 -- ONE DIRECTION
 module _ (g : Graph) (ix cb b q : ℕ) where
-  pub moved-more : (w w₁ w₂ : List ℕ) → Side g ix cb b q w₁ → Side g ix cb b q w₂ → ((j : ℕ) → j < b → getD w₂ j 0 ≡ getD w₁ j 0)
-      → ((v : ℕ) → v < g .n → col b w₁ v ≡ q → col b w v ≡ q) → ((v : ℕ) → v < g .n → col b w₂ v ≡ q → col b w₁ v ≡ q)
-      → Moved g ix cb b q w w₁ → Moved g ix cb b q w₁ w₂ → Moved g ix cb b q w w₂
-  moved-more w w₁ w₂ s₁ s₂ low less₁ less₂ x y v l p =
-      ⊎-elim
-      (λ e. ⊎-elim
-      (λ f. inl (e ∙ f))
-      (λ (h, f). inr (rw e h, ap (col b w) (ahead-same g ix b w₁ (s₁ .laid) w₂ low cb v l e h) ∙ f))
-      (x v l (less₂ v l p)))
-      (λ (h, f). inr (h, less₁ (ahead g ix cb w₂ v) (ahead-low g ix cb b q w₂ s₂ v l p h) f))
-      (y v l p)
+  -- what led into the part led into the greater part before
+  fresh-less : (w₀ w w' : List ℕ) → Laid g ix b w' → ((u : ℕ) → u < g .n → col b w u ≡ q → col b w₀ u ≡ q) → (v : ℕ) → v < g .n
+      → Fresh g ix cb b q w w' v → Fresh g ix cb b q w₀ w' v
+  fresh-less w₀ w w' x less v l f = record {
+    before = f .before;
+    inside = less (ahead g ix cb w' v) (ahead-low g ix cb b q w' x v l (f .clear) (f .before)) (f .inside);
+    clear = f .clear;
+  }
 
-  module _ (k : ℕ) (w w' : List ℕ) (k' : ℕ) (s : Side g ix cb b q w) (s' : Side g ix cb b q w') (low : (j : ℕ) → j < b → getD w' j 0 ≡ getD w j 0)
-      (each : Each (g .n) b q k w w' k') (move : Moved g ix cb b q w w') (v : ℕ) (l : v < g .n) (p : col b w' v ≡ q) where
+  module _ (w w' : List ℕ) (x : Laid g ix b w) (x' : Laid g ix b w') (low : (j : ℕ) → j < b → getD w' j 0 ≡ getD w j 0)
+      (shrink : (v : ℕ) → v < g .n → col b w' v ≡ q → col b w v ≡ q) (move : Moved g ix cb b q w w') (v : ℕ) (l : v < g .n) (p : col b w' v ≡ q) where
+    still : cur cb w' v ≡ cur cb w v → Clear g ix b q w v (cur cb w v) → Clear g ix b q w' v (cur cb w' v)
+    still e z = rw e (clear-kept g ix b q w w' x low shrink v (cur cb w v) l z)
+
+    pub clear-moved : Clear g ix b q w v (cur cb w v) → Clear g ix b q w' v (cur cb w' v)
+    clear-moved z = ⊎-elim (λ e. still e z) (λ f. f .clear) (move v l p)
+
     pub fresh-kept : (w₀ : List ℕ) → ((u : ℕ) → u < g .n → col b w u ≡ q → col b w₀ u ≡ q) → Fresh g ix cb b q w₀ w v → Fresh g ix cb b q w₀ w' v
     fresh-kept w₀ less f =
         ⊎-elim
-        (λ e. record { before = rw e (f .before); inside = ap (col b w₀) (ahead-same g ix b w (s .laid) w' low cb v l e (f .before)) ∙ f .inside })
-        (λ (h, i). record { before = h; inside = less (ahead g ix cb w' v) (ahead-low g ix cb b q w' s' v l p h) i })
+        (λ e. record { before = rw e (f .before); inside = ap (col b w₀) (ahead-same g ix b w x w' low cb v l e (f .before)) ∙ f .inside; clear = still e (f .clear) })
+        (λ d. fresh-less w₀ w w' x' less v l d)
         (move v l p)
 
-    pub standing-kept : (h : ℕ) → h ≤ k → k ≤ k' → ((i : ℕ) → i < k → que (g .n) b w' i ≡ que (g .n) b w i) → Standing g ix cb b q h k w v → Standing g ix cb b q h k' w' v
-    standing-kept h le more front t =
+    pub standing-kept : (k k' h : ℕ) → Each (g .n) b q k w w' k' → h ≤ k → k ≤ k' → ((i : ℕ) → i < k → que (g .n) b w' i ≡ que (g .n) b w i)
+        → Standing g ix cb b q h k w v → Standing g ix cb b q h k' w' v
+    standing-kept k k' h each le more front t =
         ⊎-elim
-        (λ e. let a = ahead-same g ix b w (s .laid) w' low cb v l e (t .before) in
+        (λ e. let a = ahead-same g ix b w x w' low cb v l e (t .before) in
         record {
           before = rw e (t .before);
           inside = ⊎-elim
-              (λ i. within (rw e (t .before)) (ap (col b w) a ∙ i))
+              (λ i. within (rw e (t .before)) (still e (t .clear)) (ap (col b w) a ∙ i))
               (λ (i, m, n, c). inr (i, m, omega arith, front i n ∙ c ∙ sym a))
               (t .inside);
+          clear = still e (t .clear);
         })
-        (λ (d, i). record { before = d; inside = within d i })
+        (λ f. record { before = f .before; inside = within (f .before) (f .clear) (f .inside); clear = f .clear })
         (move v l p)
       where
-        within : cur cb w' v < first g (suc v) → col b w (ahead g ix cb w' v) ≡ q
+        within : cur cb w' v < first g (suc v) → Clear g ix b q w' v (cur cb w' v) → col b w (ahead g ix cb w' v) ≡ q
             → (col b w' (ahead g ix cb w' v) ≡ q) ⊎ ((i : ℕ) × (h ≤ i) × (i < k') × (que (g .n) b w' i ≡ ahead g ix cb w' v))
-        within d i = ⊎-elim (λ c. inl c) (λ (j, m, n, c). inr (j, omega arith, n, c))
-            (remains (g .n) b q k w w' k' each (ahead g ix cb w' v) (ahead-low g ix cb b q w' s' v l p d) i)
+        within d z i = ⊎-elim (λ c. inl c) (λ (j, m, n, c). inr (j, omega arith, n, c))
+            (remains (g .n) b q k w w' k' each (ahead g ix cb w' v) (ahead-low g ix cb b q w' x' v l z d) i)
 
-  pub stands-fresh : (w₀ w : List ℕ) → Side g ix cb b q w → ((u : ℕ) → u < g .n → col b w u ≡ q → col b w₀ u ≡ q) → (v : ℕ) → v < g .n → col b w v ≡ q
+  pub moved-more : (w w₁ w₂ : List ℕ) → Laid g ix b w₁ → Laid g ix b w₂ → ((j : ℕ) → j < b → getD w₂ j 0 ≡ getD w₁ j 0)
+      → ((v : ℕ) → v < g .n → col b w₁ v ≡ q → col b w v ≡ q) → ((v : ℕ) → v < g .n → col b w₂ v ≡ q → col b w₁ v ≡ q)
+      → Moved g ix cb b q w w₁ → Moved g ix cb b q w₁ w₂ → Moved g ix cb b q w w₂
+  moved-more w w₁ w₂ x₁ x₂ low less₁ less₂ m₁ m₂ v l p =
+      ⊎-elim
+      (λ e. ⊎-elim (λ d. inl (d ∙ e)) (λ f. inr (fresh-less w w₁ w₂ x₂ less₁ v l f)) (m₂ v l p))
+      (λ f. inr (fresh-kept w₁ w₂ x₁ x₂ low less₂ m₂ v l p w less₁ f))
+      (m₁ v l (less₂ v l p))
+
+  pub stands-fresh : (w₀ w : List ℕ) → Laid g ix b w → ((u : ℕ) → u < g .n → col b w u ≡ q → col b w₀ u ≡ q) → (v : ℕ) → v < g .n
       → Stands g ix cb b q w v → Fresh g ix cb b q w₀ w v
-  stands-fresh w₀ w s less v l p t = record { before = t .before; inside = less (ahead g ix cb w v) (ahead-low g ix cb b q w s v l p (t .before)) (t .inside) }
+  stands-fresh w₀ w x less v l t =
+      record { before = t .before; inside = less (ahead g ix cb w v) (ahead-low g ix cb b q w x v l (t .clear) (t .before)) (t .inside); clear = t .clear }
 
   pub stands-standing : (h k : ℕ) (w : List ℕ) (v : ℕ) → Stands g ix cb b q w v → Standing g ix cb b q h k w v
-  stands-standing h k w v t = record { before = t .before; inside = inl (t .inside) }
+  stands-standing h k w v t = record { before = t .before; inside = inl (t .inside); clear = t .clear }
 
   -- if all that have an edge to u, which is not in the part, were examined, then no cursor stands at such an edge
-  pub fresh-off : (rx : ℕ) (w w' : List ℕ) (u : ℕ) → (col b w u ≡ q → ⊥) → Side g ix cb b q w' → Laid (rev g) rx b w
+  pub fresh-off : (rx : ℕ) (w w' : List ℕ) (u : ℕ) → (col b w u ≡ q → ⊥) → Laid g ix b w'
+      → ((v : ℕ) → v < g .n → col b w' v ≡ q → Clear g ix b q w' v (cur cb w' v)) → Laid (rev g) rx b w
       → ((j : ℕ) → first (rev g) u ≤ j → j < first (rev g) (suc u) → col b w' (other w (rx + g .n + 1) j) ≡ q → Fresh g ix cb b q w w' (other w (rx + g .n + 1) j))
       → Off g ix cb b q u w'
-  fresh-off rx w w' u o s x f v l p h e =
-      let (c, d) = place-edge g ix b w' (s .laid) v (cur cb w' v) (s .cursors .least v l p) h in
-      let (j, m, t, y) = found (rev g) (x .index) c u v (edge-rev (s .laid .valid) (rw e at d)) in
+  fresh-off rx w w' u o x' z x f v l p h e =
+      let (c, d) = place-edge g ix b w' x' v (cur cb w' v) (z v l p .least) h in
+      let (j, m, t, y) = found (rev g) (x .index) c u v (edge-rev (x' .valid) (rw e at d)) in
       let r : Fresh g ix cb b q w w' v = rw y at (f j m t (ap (col b w') y ∙ p)) in
       o (ap (col b w) (sym e) ∙ r .inside)
 
@@ -141,3 +157,12 @@ module _ {g : Graph} {b q k : ℕ} {w w₁ w₂ : List ℕ} {k₁ k₂ : ℕ} (s
     into = moved-more (rev g) (revAt g) (intoAt g b) b q w w₁ w₂ (s .state .walking .into) (t .state .walking .into) (t .aside .low) less₁ less₂ (s .into) (t .into);
     aside = aside-more (s .aside) (t .aside);
   }
+
+-- the cursors stay right
+pub sound-kept : {g : Graph} {b q k : ℕ} {w w' : List ℕ} {k' : ℕ} → Pruning g b q k w → Pruned g b q k w w' k' → Sound g b q w → Sound g b q w'
+sound-kept {g} {b} {q} {k} {w} {w'} {k'} s z c =
+    let less = shrinks (g .n) b q k w w' k' (z .each) in
+    record {
+      out = λ v l p. clear-moved g 0 (outAt g b) b q w w' (s .walking .out) (z .state .walking .out) (z .aside .low) less (z .out) v l p (c .out v l (less v l p));
+      into = λ v l p. clear-moved (rev g) (revAt g) (intoAt g b) b q w w' (s .walking .into) (z .state .walking .into) (z .aside .low) less (z .into) v l p (c .into v l (less v l p));
+    }

@@ -1,10 +1,9 @@
 -- The state while a part is trimmed, and how it goes on.
-use Prim.Native.Nat.{ℕ, suc, _+_, _*_, _≤_, _<_}
+use Prim.Native.Nat.{ℕ, suc, _+_, _≤_, _<_}
 use mathlib.Core.Path.{_≡_}
 use mathlib.Core.Bool.{Bool}
 use mathlib.Core.List.{List}
 use mathlib.Core.Logic.{_⊎_}
-use lib.ListN.{length}
 use lib.Dec.{T}
 use Rattle.graph.specs.Graph.{Graph, Part, all, rev}
 use Rattle.graph.specs.Parts.{Tight}
@@ -12,9 +11,8 @@ use Rattle.graph.specs.Search.{part}
 use Rattle.index.specs.Index.{first}
 use Rattle.paint.specs.Colours.{col, que}
 use Rattle.paint.specs.Paint.{other}
-use Rattle.trim.specs.Chain.{Chained}
 use Rattle.trim.specs.Trim.{live, revAt, intoAt, outAt, Aside}
-use Rattle.trim.specs.Cursor.{cur, ahead, Stands, Walking, Hued}
+use Rattle.trim.specs.Cursor.{cur, ahead, Clear, Stands, Walking, Starts, Hued}
 
 -- k vertices have gone so far, and stand in the queue
 pub record Pruning (g : Graph) (b q k : ℕ) (w : List ℕ) : Type 0 where
@@ -22,10 +20,20 @@ pub record Pruning (g : Graph) (b q k : ℕ) (w : List ℕ) : Type 0 where
   pub gone : (i : ℕ) → i < k → (que (g .n) b w i < g .n) × (col b w (que (g .n) b w i) ≡ q → ⊥)
   pub room : k + live (g .n) b q w ≤ g .n
 
--- a cursor stayed, or went on to an edge that leads into the part as it was
+-- v's cursor in w' stands at an edge that led into the part in w
+pub record Fresh (g : Graph) (ix cb b q : ℕ) (w w' : List ℕ) (v : ℕ) : Type 0 where
+  pub before : cur cb w' v < first g (suc v)
+  pub inside : col b w (ahead g ix cb w' v) ≡ q
+  pub clear : Clear g ix b q w' v (cur cb w' v)
+
+-- a cursor stayed, or was put at an edge that leads into the part as it was
 abbrev pub Moved : Graph → ℕ → ℕ → ℕ → ℕ → List ℕ → List ℕ → Type 0
-Moved g ix cb b q w w' = (v : ℕ) → v < g .n → col b w' v ≡ q
-    → (cur cb w' v ≡ cur cb w v) ⊎ ((cur cb w' v < first g (suc v)) × (col b w (ahead g ix cb w' v) ≡ q))
+Moved g ix cb b q w w' = (v : ℕ) → v < g .n → col b w' v ≡ q → (cur cb w' v ≡ cur cb w v) ⊎ Fresh g ix cb b q w w' v
+
+-- what the cursors of the part have passed leads out of it
+pub record Sound (g : Graph) (b q : ℕ) (w : List ℕ) : Type 0 where
+  pub out : (v : ℕ) → v < g .n → col b w v ≡ q → Clear g 0 b q w v (cur (outAt g b) w v)
+  pub into : (v : ℕ) → v < g .n → col b w v ≡ q → Clear (rev g) (revAt g) b q w v (cur (intoAt g b) w v)
 
 -- the tight sets of vertices of the colour q are kept
 abbrev pub Keeps : Graph → ℕ → ℕ → List ℕ → List ℕ → Type 0
@@ -48,23 +56,20 @@ pub record Pruned (g : Graph) (b q k : ℕ) (w w' : List ℕ) (k' : ℕ) : Type 
   pub into : Moved (rev g) (revAt g) (intoAt g b) b q w w'
   pub aside : Aside (g .n) b w w'
 
-pub record ExamineAsk (g : Graph) (b v q k : ℕ) (w : List ℕ) : Type 0 where
+pub record ExamineAsk (g : Graph) (b v ob ib q k : ℕ) (w : List ℕ) : Type 0 where
   pub state : Pruning g b q k w
   pub low : v < g .n
+  pub starts : col b w v ≡ q → Starts g b v ob ib q w
 
 -- Vertex v was examined: it has gone, or its cursors stand at edges that lead into the part.
 pub record Examined (g : Graph) (b v q k : ℕ) (w w' : List ℕ) (k' : ℕ) : Type 0 where
   pub pruned : Pruned g b q k w w' k'
   pub stands : col b w' v ≡ q → Stands g 0 (outAt g b) b q w' v × Stands (rev g) (revAt g) (intoAt g b) b q w' v
 
--- v's cursor in w' stands at an edge that led into the part in w
-pub record Fresh (g : Graph) (ix cb b q : ℕ) (w w' : List ℕ) (v : ℕ) : Type 0 where
-  pub before : cur cb w' v < first g (suc v)
-  pub inside : col b w (ahead g ix cb w' v) ≡ q
-
 -- the neighbours at the places i .. t - 1 of the neighbours, which stand in w from eb on, are to be examined
 pub record AroundAsk (g : Graph) (eb b i t q k : ℕ) (w : List ℕ) : Type 0 where
   pub state : Pruning g b q k w
+  pub sound : Sound g b q w
   pub order : i ≤ t
   pub below : eb + t ≤ b
   pub ends : (j : ℕ) → i ≤ j → j < t → other w eb j < g .n
@@ -76,6 +81,7 @@ pub record Around (g : Graph) (eb b i t q k : ℕ) (w w' : List ℕ) (k' : ℕ) 
 
 pub record BesideAsk (g : Graph) (b u q k : ℕ) (w : List ℕ) : Type 0 where
   pub state : Pruning g b q k w
+  pub sound : Sound g b q w
   pub low : u < g .n
   pub went : col b w u ≡ q → ⊥
 
@@ -92,6 +98,7 @@ pub record Beside (g : Graph) (b u q k : ℕ) (w w' : List ℕ) (k' : ℕ) : Typ
 pub record Standing (g : Graph) (ix cb b q h k : ℕ) (w : List ℕ) (v : ℕ) : Type 0 where
   pub before : cur cb w v < first g (suc v)
   pub inside : (col b w (ahead g ix cb w v) ≡ q) ⊎ ((i : ℕ) × (h ≤ i) × (i < k) × (que (g .n) b w i ≡ ahead g ix cb w v))
+  pub clear : Clear g ix b q w v (cur cb w v)
 
 -- all vertices of P that are left of the part stand so
 abbrev pub AllStanding : Graph → ℕ → ℕ → Part → ℕ → ℕ → List ℕ → Type 0
@@ -106,11 +113,6 @@ pub record DrainAsk (g : Graph) (b q k : ℕ) (w : List ℕ) : Type 0 where
 pub record Drained (g : Graph) (b q k : ℕ) (w w' : List ℕ) (k' : ℕ) : Type 0 where
   pub pruned : Pruned g b q k w w' k'
   pub stands : (v : ℕ) → v < g .n → col b w' v ≡ q → Stands g 0 (outAt g b) b q w' v × Stands (rev g) (revAt g) (intoAt g b) b q w' v
-
-pub record PassAsk (g : Graph) (b h q : ℕ) (w : List ℕ) : Type 0 where
-  pub state : Pruning g b q 0 w
-  pub long : b + 10 * g .n + 2 ≤ length w
-  pub chain : Chained (g .n) b q h w
 
 pub record Passed (g : Graph) (b q : ℕ) (w w' : List ℕ) (k : ℕ) : Type 0 where
   pub pruned : Pruned g b q 0 w w' k

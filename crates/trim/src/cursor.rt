@@ -1,6 +1,6 @@
 // Cursors: one for each vertex and direction; it walks the vertex's neighbours once, past those that are not in the part.
 ghost use Rattle.graph.specs.Arrows.{SomeOf, EveryOf};
-ghost use Rattle.trim.specs.Cursor.{FindAsk, Found, AdvanceAsk, Advanced, TiedAsk, Tied, AimAsk, Aimed};
+ghost use Rattle.trim.specs.Cursor.{FindAsk, Found, LookAsk, Looked, AdvanceAsk, Advanced, TiedAsk, Tied};
 
 // The first place from i0 on, below t, whose neighbour has the colour q; t if there is none.
 fn find(n: usize, w: &[u32], eb: usize, b: usize, q: u32, i0: usize, t: usize) -> usize
@@ -18,13 +18,22 @@ fn find(n: usize, w: &[u32], eb: usize, b: usize, q: u32, i0: usize, t: usize) -
     i
 }
 
-// v's cursor, at cb + v, goes on to the first edge that leads to the colour q. 0 if there is none, else 1.
-pub fn advance(n: usize, w: &mut [u32], ix: usize, cb: usize, b: usize, v: usize, q: u32) -> usize
-    requires { ⌜ AdvanceAsk n ix cb b v (now w) ⌝ }
-    ensures { λ r. ⌜ Advanced n ix cb b v q (now (w .entry)) (now (w .exit)) r ⌝ }
+// v's cursor, at cb + v, goes to the first edge from the place at sb + v on that leads to the colour q. 0 if there is none, else 1.
+fn look(
+    n: usize,
+    w: &mut [u32],
+    ix: usize,
+    cb: usize,
+    sb: usize,
+    b: usize,
+    v: usize,
+    q: u32,
+) -> usize
+    requires { ⌜ LookAsk n ix cb sb b v (now w) ⌝ }
+    ensures { λ r. ⌜ Looked n ix cb sb b v q (now (w .entry)) (now (w .exit)) r ⌝ }
 {
     let t = w[ix + v + 1] as usize;
-    let i = find(n, w, ix + n + 1, b, q, w[cb + v] as usize, t);
+    let i = find(n, w, ix + n + 1, b, q, w[sb + v] as usize, t);
     w[cb + v] = i as u32;
     if i < t {
         return 1;
@@ -32,28 +41,30 @@ pub fn advance(n: usize, w: &mut [u32], ix: usize, cb: usize, b: usize, v: usize
     0
 }
 
-// 0 if no edge of the part q leaves v, or none enters it; else 1.
-pub fn tied(n: usize, m: usize, w: &mut [u32], b: usize, v: usize, q: u32) -> usize
-    requires { ⌜ SomeOf n m (λ g. TiedAsk g b v q (now w)) ⌝ }
-    ensures { λ r. ⌜ EveryOf n m (λ g. TiedAsk g b v q (now (w .entry)) → Tied g b v q (now (w .entry)) (now (w .exit)) r) ⌝ }
+// v's cursor, at cb + v, goes on to the first edge that leads to the colour q. 0 if there is none, else 1.
+pub fn advance(n: usize, w: &mut [u32], ix: usize, cb: usize, b: usize, v: usize, q: u32) -> usize
+    requires { ⌜ AdvanceAsk n ix cb b v (now w) ⌝ }
+    ensures { λ r. ⌜ Advanced n ix cb b v q (now (w .entry)) (now (w .exit)) r ⌝ }
 {
-    if advance(n, w, 0, b + 7 * n + 2, b, v, q) == 0 {
-        return 0;
-    }
-    advance(n, w, n + 1 + m, b + 6 * n + 2, b, v, q)
+    look(n, w, ix, cb, cb, b, v, q)
 }
 
-// Both cursors of each vertex of the part q, whose chain begins at place h, are set to its first edges.
-pub fn aim(n: usize, m: usize, w: &mut [u32], b: usize, h: usize, q: u32)
-    requires { ⌜ AimAsk n m b h q (now w) ⌝ }
-    ensures { λ _. ⌜ Aimed n m b q n (now (w .entry)) (now (w .exit)) ⌝ }
+// 0 if no edge of the part q leaves v, or none enters it; else 1. The looks begin at the places at ob + v and ib + v.
+pub fn tied(
+    n: usize,
+    m: usize,
+    w: &mut [u32],
+    b: usize,
+    v: usize,
+    ob: usize,
+    ib: usize,
+    q: u32,
+) -> usize
+    requires { ⌜ SomeOf n m (λ g. TiedAsk g b v ob ib q (now w)) ⌝ }
+    ensures { λ r. ⌜ EveryOf n m (λ g. TiedAsk g b v ob ib q (now (w .entry)) → Tied g b v q (now (w .entry)) (now (w .exit)) r) ⌝ }
 {
-    let mut i = h;
-    while i < n {
-        let v = w[b + 9 * n + 2 + i] as usize;
-        let y = w[b + 2 * n + i] as usize;
-        w[b + 7 * n + 2 + v] = w[v];
-        w[b + 6 * n + 2 + v] = w[n + 1 + m + v];
-        i = y;
+    if look(n, w, 0, b + 7 * n + 2, ob, b, v, q) == 0 {
+        return 0;
     }
+    look(n, w, n + 1 + m, b + 6 * n + 2, ib, b, v, q)
 }

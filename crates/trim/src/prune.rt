@@ -1,18 +1,28 @@
 // Trimming a part: what goes stands in a queue, and only neighbours of what went are examined again.
 ghost use Rattle.graph.specs.Arrows.{SomeOf, EveryOf};
 ghost use Rattle.trim.specs.Trim.{TrimAsk, Trimmed};
-ghost use Rattle.trim.specs.Prune.{ExamineAsk, Examined, AroundAsk, Around, BesideAsk, Beside, DrainAsk, Drained, PassAsk, Passed};
+ghost use Rattle.trim.specs.Prune.{ExamineAsk, Examined, AroundAsk, Around, BesideAsk, Beside, DrainAsk, Drained, Passed};
 use crate::cursor;
 
-// v goes, if it is still in the part q and can be trimmed. How many have gone.
-fn examine(n: usize, m: usize, w: &mut [u32], b: usize, v: usize, q: u32, k: usize) -> usize
-    requires { ⌜ SomeOf n m (λ g. ExamineAsk g b v q k (now w)) ⌝ }
-    ensures { λ k'. ⌜ EveryOf n m (λ g. ExamineAsk g b v q k (now (w .entry)) → Examined g b v q k (now (w .entry)) (now (w .exit)) k') ⌝ }
+// v goes, if it is still in the part q and can be trimmed; ob and ib are as in cursor::tied. How many have gone.
+fn examine(
+    n: usize,
+    m: usize,
+    w: &mut [u32],
+    b: usize,
+    v: usize,
+    ob: usize,
+    ib: usize,
+    q: u32,
+    k: usize,
+) -> usize
+    requires { ⌜ SomeOf n m (λ g. ExamineAsk g b v ob ib q k (now w)) ⌝ }
+    ensures { λ k'. ⌜ EveryOf n m (λ g. ExamineAsk g b v ob ib q k (now (w .entry)) → Examined g b v q k (now (w .entry)) (now (w .exit)) k') ⌝ }
 {
     if w[b + v] != q {
         return k;
     }
-    if cursor::tied(n, m, w, b, v, q) != 0 {
+    if cursor::tied(n, m, w, b, v, ob, ib, q) != 0 {
         return k;
     }
     w[b + v] = v as u32;
@@ -39,7 +49,7 @@ fn around(
     let mut k = k0;
     while i < t {
         let x = w[eb + i] as usize;
-        k = examine(n, m, w, b, x, q, k);
+        k = examine(n, m, w, b, x, b + 7 * n + 2, b + 6 * n + 2, q, k);
         i += 1;
     }
     k
@@ -74,17 +84,17 @@ fn drain(n: usize, m: usize, w: &mut [u32], b: usize, q: u32, k0: usize) -> usiz
     k
 }
 
-// Every vertex of the part q, whose chain begins at place h, is examined once.
+// Every vertex of the part q, whose chain begins at place h, is examined once, from its first edges on.
 fn pass(n: usize, m: usize, w: &mut [u32], b: usize, h: usize, q: u32) -> usize
-    requires { ⌜ SomeOf n m (λ g. PassAsk g b h q (now w)) ⌝ }
-    ensures { λ k'. ⌜ EveryOf n m (λ g. PassAsk g b h q (now (w .entry)) → Passed g b q (now (w .entry)) (now (w .exit)) k') ⌝ }
+    requires { ⌜ SomeOf n m (λ g. TrimAsk g b h q (now w)) ⌝ }
+    ensures { λ k'. ⌜ EveryOf n m (λ g. TrimAsk g b h q (now (w .entry)) → Passed g b q (now (w .entry)) (now (w .exit)) k') ⌝ }
 {
     let mut i = h;
     let mut k = 0;
     while i < n {
         let v = w[b + 9 * n + 2 + i] as usize;
         let y = w[b + 2 * n + i] as usize;
-        k = examine(n, m, w, b, v, q, k);
+        k = examine(n, m, w, b, v, 0, n + 1 + m, q, k);
         i = y;
     }
     k
@@ -95,7 +105,6 @@ pub fn prune(n: usize, m: usize, w: &mut [u32], b: usize, h: usize, q: u32) -> u
     requires { ⌜ SomeOf n m (λ g. TrimAsk g b h q (now w)) ⌝ }
     ensures { λ k'. ⌜ EveryOf n m (λ g. TrimAsk g b h q (now (w .entry)) → Trimmed g b q (now (w .entry)) (now (w .exit)) k') ⌝ }
 {
-    cursor::aim(n, m, w, b, h, q);
     let k = pass(n, m, w, b, h, q);
     drain(n, m, w, b, q, k)
 }

@@ -40,6 +40,24 @@ cast-x c = let s = c .before .before .before .before in
     let z = l .inv .2 (s .pre .0) (s .pre .1) in
     omega (arith, around-low (s .pre .1) z (l .inv .0) (c .before .loop-test .taken), s .pre .1 .state .walking .small)
 
+mul-examine : tie.Need-mul-examine Inv-loop μ-loop
+mul-examine c = let s = c .before .before .before .before .before in omega (arith, s .pre .1 .state .walking .long)
+
+add-examine : tie.Need-add-examine Inv-loop μ-loop
+add-examine c = let s = c .before .before .before .before .before in omega (arith, s .pre .1 .state .walking .long)
+
+add-examine-2 : tie.Need-add-examine-2 Inv-loop μ-loop
+add-examine-2 c = let s = c .before .before .before .before .before in omega (arith, s .pre .1 .state .walking .long)
+
+mul-examine-2 : tie.Need-mul-examine-2 Inv-loop μ-loop
+mul-examine-2 c = let s = c .before .before .before .before .before in omega (arith, s .pre .1 .state .walking .long)
+
+add-examine-3 : tie.Need-add-examine-3 Inv-loop μ-loop
+add-examine-3 c = let s = c .before .before .before .before .before in omega (arith, s .pre .1 .state .walking .long)
+
+add-examine-4 : tie.Need-add-examine-4 Inv-loop μ-loop
+add-examine-4 c = let s = c .before .before .before .before .before in omega (arith, s .pre .1 .state .walking .long)
+
 examine-requires : tie.Need-examine-requires Inv-loop μ-loop
 examine-requires c κs = let s = c .before .before .before .before .before in
     let l = c .before .before .before .loop in
@@ -69,4 +87,4 @@ returns c = let l = c .before .loop in
     λ g a. rw e at (l .inv .2 g a)
 
 pub around-spec : {M : Type 1} → statement M
-around-spec = tie.close (tie.spec Inv-loop μ-loop loop-holds add-x mul-x slice-read-x cast-x examine-requires add-i loop-less loop-again same-length returns)
+around-spec = tie.close (tie.spec Inv-loop μ-loop loop-holds add-x mul-x slice-read-x cast-x mul-examine add-examine add-examine-2 mul-examine-2 add-examine-3 add-examine-4 examine-requires add-i loop-less loop-again same-length returns)

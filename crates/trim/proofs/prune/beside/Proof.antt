@@ -59,7 +59,7 @@ slice-read-j c =
     let at-around = c .before .before .before in
     let s = at-around .before .before .before .before .before in
     let y = at-around .around .ensures (s .pre .0) (beside-first (s .pre .1)) in
-    omega (arith, s .pre .1 .low, s .pre .1 .state .walking .into .laid .below, s .pre .1 .state .walking .long, y .pruned .aside .long)
+    omega (arith, s .pre .1 .low, s .pre .1 .state .walking .into .below, s .pre .1 .state .walking .long, y .pruned .aside .long)
 
 cast-j : tie.Need-cast-j
 cast-j c = let s = c .before .before .before .before .before .before .before .before in omega (arith, c .slice-known5 .given (s .args .n + 1 + s .args .m + s .args .u))
@@ -78,7 +78,7 @@ slice-read-s c =
     let at-around = c .before .before .before .before in
     let s = at-around .before .before .before .before .before in
     let y = at-around .around .ensures (s .pre .0) (beside-first (s .pre .1)) in
-    omega (arith, s .pre .1 .low, s .pre .1 .state .walking .into .laid .below, s .pre .1 .state .walking .long, y .pruned .aside .long)
+    omega (arith, s .pre .1 .low, s .pre .1 .state .walking .into .below, s .pre .1 .state .walking .long, y .pruned .aside .long)
 
 cast-s : tie.Need-cast-s
 cast-s c = let s = c .before .before .before .before .before .before .before .before .before in omega (arith, c .slice-known6 .given (s .args .n + 1 + s .args .m + s .args .u + 1))

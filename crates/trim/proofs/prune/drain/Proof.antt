@@ -50,8 +50,8 @@ cast-u c = let s = c .before .before .before .before in
 beside-requires : tie.Need-beside-requires Inv-loop μ-loop
 beside-requires c κs = let s = c .before .before .before .before .before in
     let l = c .before .before .before .loop in
-    let z = l .inv .1 (s .pre .0) (s .pre .1) .0 .state in
-    (s .pre .0, drain-beside (l .h) z (c .before .before .loop-test .taken))
+    let (z, t) = l .inv .1 (s .pre .0) (s .pre .1) in
+    (s .pre .0, drain-beside (l .h) (z .state) t (c .before .before .loop-test .taken))
 
 add-h : tie.Need-add-h Inv-loop μ-loop
 add-h c = let s = c .before .before .before .before .before .before .before .before in
@@ -68,12 +68,12 @@ loop-less c = let s = c .before .before .before .before .before .before .before 
 loop-again : tie.Need-loop-again Inv-loop μ-loop
 loop-again c = let s = c .before .before .before .before .before .before .before .before in
     let l = c .before .before .before .before .before .before .loop in
-    let z = l .inv .1 (s .pre .0) (s .pre .1) .0 .state in
+    let (z, x) = l .inv .1 (s .pre .0) (s .pre .1) in
     let h = c .before .before .before .before .before .loop-test .taken in
     let call = c .before .before .beside .ensures in (
-      omega (arith, call (s .pre .0) (drain-beside (l .h) z h) .pruned .more, h),
+      omega (arith, call (s .pre .0) (drain-beside (l .h) (z .state) x h) .pruned .more, h),
       λ g a. let (p, t) = l .inv .1 g a in
-          let y = call g (drain-beside (l .h) (p .state) h) in
+          let y = call g (drain-beside (l .h) (p .state) t h) in
           (pruned-more p (y .pruned), drain-step (l .h) (p .state) h y t),
     )
 

@@ -1,21 +1,22 @@
 use Prim.Native.Nat.{_-_}
 use native.Mathlib.Omega.{arith}
 use Rattle.graph.specs.Arrows.{EveryOf}
-use Rattle.trim.specs.Prune.{Pruned, AllStanding, PassAsk}
-use Rattle.trim.proofs.Aims.{Along, along-head, along-next}
+use Rattle.trim.specs.Trim.{TrimAsk}
+use Rattle.trim.specs.Prune.{Pruned, AllStanding}
+use Rattle.trim.proofs.Along.{Along, along-head, along-next}
 use Rattle.trim.proofs.Steps.{pruned-none, pruned-more}
-use Rattle.trim.proofs.Rounds.{Before, pass-none, pass-end, pass-next, pass-low, pass-examine, pass-step}
+use Rattle.trim.proofs.Rounds.{Before, pass-state, pass-none, pass-end, pass-next, pass-low, pass-examine, pass-step}
 use Rattle.trim.proofs.prune.pass.Statement.{statement}
 use Rattle.trim.proofs.prune.pass.Tie as tie
 
 abbrev Inv-loop : tie.InvT-loop
-Inv-loop n m w₀ b h q i₀ k₀ w i k = Along n b q w₀ i × EveryOf n m (λ g. PassAsk g b h q w₀ → Pruned g b q 0 w₀ w k × AllStanding g b q (Before n b w₀ i) 0 k w)
+Inv-loop n m w₀ b h q i₀ k₀ w i k = Along n b q w₀ i × EveryOf n m (λ g. TrimAsk g b h q w₀ → Pruned g b q 0 w₀ w k × AllStanding g b q (Before n b w₀ i) 0 k w)
 
 abbrev μ-loop : tie.MeasureT-loop
 μ-loop n m w₀ b h q i₀ k₀ w i k = n - i
 
 loop-holds : tie.Need-loop-holds Inv-loop μ-loop
-loop-holds c = let s = c .before in (along-head (s .pre .1 .chain), λ g a. (pruned-none (a .state), pass-none a))
+loop-holds c = let s = c .before in (along-head (s .pre .1 .chain), λ g a. (pruned-none (pass-state a), pass-none a))
 
 mul-v : tie.Need-mul-v Inv-loop μ-loop
 mul-v c = let s = c .before .before .before in
@@ -57,7 +58,7 @@ cast-v : tie.Need-cast-v Inv-loop μ-loop
 cast-v c = let s = c .before .before .before .before in
     let l = c .before .before .loop in
     let z = l .inv .1 (s .pre .0) (s .pre .1) .0 in
-    omega (arith, pass-low (s .pre .1) (l .inv .0) z (c .before .loop-test .taken), s .pre .1 .state .walking .small)
+    omega (arith, pass-low (s .pre .1) (l .inv .0) z (c .before .loop-test .taken), s .pre .1 .small)
 
 mul-y : tie.Need-mul-y Inv-loop μ-loop
 mul-y c = let s = c .before .before .before .before in
@@ -94,7 +95,13 @@ cast-y c = let s = c .before .before .before .before .before in
     let l = c .before .before .before .loop in
     let z = l .inv .1 (s .pre .0) (s .pre .1) .0 in
     let h = c .before .before .loop-test .taken in
-    omega (arith, pass-next (s .pre .1) (l .inv .0) z h, s .pre .1 .chain .next (l .i) h (l .inv .0 .here h) .most, s .pre .1 .state .walking .small)
+    omega (arith, pass-next (s .pre .1) (l .inv .0) z h, s .pre .1 .chain .next (l .i) h (l .inv .0 .here h) .most, s .pre .1 .small)
+
+add-examine : tie.Need-add-examine Inv-loop μ-loop
+add-examine c = let s = c .before .before .before .before .before .before in omega (arith, s .pre .1 .bwd .below, s .pre .1 .long)
+
+add-examine-2 : tie.Need-add-examine-2 Inv-loop μ-loop
+add-examine-2 c = let s = c .before .before .before .before .before .before in omega (arith, s .pre .1 .bwd .below, s .pre .1 .long)
 
 examine-requires : tie.Need-examine-requires Inv-loop μ-loop
 examine-requires c κs = let s = c .before .before .before .before .before .before in
@@ -151,6 +158,8 @@ pass-spec =
     mul-y-2
     slice-read-y
     cast-y
+    add-examine
+    add-examine-2
     examine-requires
     loop-less
     loop-again

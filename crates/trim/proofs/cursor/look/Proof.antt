@@ -2,8 +2,8 @@ use mathlib.Core.Path.{refl}
 use Prim.Native.Nat.{_+_}
 use native.Mathlib.Omega.{arith}
 use borrow.Author.Needs.{needs}
-use Rattle.trim.proofs.cursor.advance.Statement.{statement}
-use Rattle.trim.proofs.cursor.advance.Tie as tie
+use Rattle.trim.proofs.cursor.look.Statement.{statement}
+use Rattle.trim.proofs.cursor.look.Tie as tie
 
 add-t : tie.Need-add-t
 add-t c = search needs
@@ -65,8 +65,8 @@ same-length-2 c = search needs
 returns-2 : tie.Need-returns-2
 returns-2 c = record { place = c .before .find .result; found = c .before .find .ensures; store = refl; none = λ e. omega (arith, c .before .find .ensures .most); some = λ o. absurd (o refl) }
 
-pub advance-spec : {M : Type 1} → statement M
-advance-spec =
+pub look-spec : {M : Type 1} → statement M
+look-spec =
     tie.close
     (tie.spec
     add-t
