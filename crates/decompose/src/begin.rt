@@ -68,13 +68,13 @@ fn number(w: &mut [u32], x: usize, len: usize)
     }
 }
 
-// The order of the caller's list; kinds 0 and 1 know no list.
+// The order of the caller's list; kinds 0 and 1 know no list, and their order is the rising one.
 fn arrange(n: usize, kind: u32, list: &[u32], w: &mut [u32], b: usize)
     requires { ⌜ Room b n (now w) ⌝ }
     ensures { λ _. ⌜ Ordered n (listOf kind (now (list .entry))) b (now (w .entry)) (now (w .exit)) ⌝ }
 {
     if kind != 2 {
-        return order::arrange(&list[..0], n, w, b);
+        return order::rising(n, w, b);
     }
     order::arrange(list, n, w, b);
 }

@@ -17,7 +17,7 @@ use Rattle.graph.proofs.Memory.{framed-none}
 use Rattle.graph.proofs.Counts.{many-le, many-mono, many-more, many-one}
 use Rattle.graph.proofs.Pivot.{lowest-in}
 use Rattle.graph.proofs.Tests.{and-l, and-r, and-make, eq-T, cond-true, cond-false, least-first, least-passes}
-use Rattle.pivot.specs.Order.{orderAt, order, Arranged, Beside}
+use Rattle.pivot.specs.Order.{orderAt, order, Arranged, Beside, Ordered}
 use Rattle.pivot.specs.Placing.{marked, Room, Placed, outside, again, placed, Filling, Leads, Listing, Filled}
 
 pub beside-none : (b n : ℕ) (w : List ℕ) → Beside b n w w
@@ -349,3 +349,44 @@ rising-step {b} {n} {k₀} {v} {k} {w} {w₁} {w₂} {r} l s p =
 
 pub rising-all : {b n k₀ k : ℕ} {w w' : List ℕ} → Rising b n k₀ n k w w' → Filled b n k₀ w w'
 rising-all s = record { beside = s .beside; order = λ list d. leads-all (s .filling) (s .below) (s .leads list d) }
+
+-- the first i places hold their own numbers
+pub record Plain (b n i : ℕ) (w w' : List ℕ) : Type 0 where
+  pub framed : Framed (orderAt b n) (orderAt b n + i) w w'
+  pub own : (j : ℕ) → j < i → order b n w' j ≡ j
+
+pub plain-none : (b n : ℕ) (w : List ℕ) → Plain b n 0 w w
+plain-none b n w = record { framed = framed-none (orderAt b n) (orderAt b n + 0) w; own = λ j l. absurd (not-suc-le-zero l) }
+
+pub plain-step : {b n i : ℕ} {w w' : List ℕ} → orderAt b n + i < length w' → Plain b n i w w' → Plain b n (i + 1) w (set w' (orderAt b n + i) i)
+plain-step {b} {n} {i} {w} {w'} l c =
+    record {
+      framed = record {
+        long = length-set w' (orderAt b n + i) i ∙ c .framed .long;
+        low = λ j h. getD-set-other w' (orderAt b n + i) j i 0 (λ e. omega arith) ∙ c .framed .low j h;
+        high = λ j h. getD-set-other w' (orderAt b n + i) j i 0 (λ e. omega arith) ∙ c .framed .high j (omega arith);
+      };
+      own = λ j h. elim (ℕ-discrete j i) as (λ _. order b n (set w' (orderAt b n + i) i) j ≡ j) [
+        | yes e ↦ ap (order b n (set w' (orderAt b n + i) i)) e ∙ getD-set-same w' (orderAt b n + i) i 0 l ∙ sym e
+        | no d ↦ getD-set-other w' (orderAt b n + i) (orderAt b n + j) i 0 (λ e. d (omega arith)) ∙ c .own j (omega arith)
+      ];
+    }
+
+-- the rising order is the order of no list
+pub arranged-plain : {n : ℕ} {ord : ℕ → ℕ} → ((i : ℕ) → i < n → ord i ≡ i) → Arranged n [] ord
+arranged-plain {n} {ord} own = record { low = λ i l. omega (arith, own i l); one = λ i j l m e. sym (own i l) ∙ e ∙ own j m; all = λ v l. (v, l, own v l); exact = exact }
+  where
+    exact : (p : ℕ → Bool) (v : ℕ) → v < n → T (p v) → ord (least n (λ i. p (ord i))) ≡ listed n p []
+    exact p v l t =
+        let (m, s) = lowest-in n (λ i. p (ord i)) v l (subst (λ (u : ℕ). T (p u)) (sym (own v l)) t) in
+        let (m', s') = lowest-in n p v l t in
+        let up : least n p ≤ least n (λ i. p (ord i)) = least-first n p (least n (λ i. p (ord i))) m (subst (λ (u : ℕ). T (p u)) (own (least n (λ i. p (ord i))) m) s) in
+        let down : least n (λ i. p (ord i)) ≤ least n p = least-first n (λ i. p (ord i)) (least n p) m' (subst (λ (u : ℕ). T (p u)) (sym (own (least n p) m')) s') in
+        omega (arith, own (least n (λ i. p (ord i))) m, up, down, listed-end n p)
+
+pub plain-all : {b n : ℕ} {w w' : List ℕ} → Plain b n n w w' → Ordered n [] b w w'
+plain-all {b} {n} c =
+    record {
+      order = arranged-plain (c .own);
+      beside = record { long = c .framed .long; low = λ j h. c .framed .low j (omega arith); between = λ j h k. c .framed .low j k; high = c .framed .high };
+    }

@@ -1,5 +1,6 @@
 // The order of a caller's list: the listed vertices first, then the others rising.
 ghost use Prim.Native.Nat.{_≤_};
+ghost use mathlib.Core.List.{[]};
 ghost use lib.ListN.{length};
 ghost use Rattle.pivot.specs.Order.{Ordered};
 ghost use Rattle.pivot.specs.Placing.{Room, Place, Placed, Unmarked, Begun, Listing, Rest, Filled};
@@ -67,4 +68,16 @@ pub fn arrange(list: &[u32], n: usize, w: &mut [u32], b: usize)
     unmark(w, b, n);
     let k = listed(list, w, b, n);
     others(w, b, n, k);
+}
+
+// Without a list the order is the rising one, and needs no marks.
+pub fn rising(n: usize, w: &mut [u32], b: usize)
+    requires { ⌜ Room b n (now w) ⌝ }
+    ensures { λ _. ⌜ Ordered n [] b (now (w .entry)) (now (w .exit)) ⌝ }
+{
+    let mut i = 0;
+    while i < n {
+        w[b + 9 * n + 2 + i] = i as u32;
+        i += 1;
+    }
 }
