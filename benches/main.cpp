@@ -54,6 +54,7 @@ struct Lent {
     explicit Lent(const Table &t)
         : table(t), room(t), words(tinoweala_words(t.n)), starts(tinoweala_set_words(t.n), 1), all(starts.size(), ~uint64_t(0)), set(starts.size()), waiting(t.n), list(any_order(t.n)), right(t.n),
           label(t.n), rank(t.n), in_edge(t.n), in_distance(t.n), out_edge(t.n), out_distance(t.n), path(t.n), edges(2 * t.m()), summary(3) {
+        if (t.n % 64) all.back() = (uint64_t(1) << t.n % 64) - 1;
         plain_tarjan(table, room, right.data());
         plain_distances(table, room, 0, label.data());
         for (uint32_t v = 0; v < t.n; v++)
