@@ -52,7 +52,7 @@ pub fn visit(
     k + 1
 }
 
-// The neighbours at the places i0 .. t - 1 of the neighbours, which stand in w from eb on, are looked at.
+// The neighbours that stand in w at eb + i0 .. eb + t - 1 are looked at.
 fn scan(
     n: usize,
     w: &mut [u32],

@@ -66,7 +66,7 @@ pub record Examined (g : Graph) (b v q k : ℕ) (w w' : List ℕ) (k' : ℕ) : T
   pub pruned : Pruned g b q k w w' k'
   pub stands : col b w' v ≡ q → Stands g 0 (outAt g b) b q w' v × Stands (rev g) (revAt g) (intoAt g b) b q w' v
 
--- the neighbours at the places i .. t - 1 of the neighbours, which stand in w from eb on, are to be examined
+-- the neighbours that stand in w at eb + i .. eb + t - 1 are to be examined
 pub record AroundAsk (g : Graph) (eb b i t q k : ℕ) (w : List ℕ) : Type 0 where
   pub state : Pruning g b q k w
   pub sound : Sound g b q w

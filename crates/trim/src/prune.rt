@@ -30,7 +30,7 @@ fn examine(
     k + 1
 }
 
-// The neighbours at the places i0 .. t - 1 of the neighbours, which stand in w from eb on, are examined.
+// The neighbours that stand in w at eb + i0 .. eb + t - 1 are examined.
 fn around(
     n: usize,
     m: usize,
