@@ -1,13 +1,12 @@
--- Chains: joined, turned, restricted. Components: an equivalence, the same with every arrow turned.
+-- Chains of edges: joined, turned, restricted. Components: an equivalence, the same with every arrow turned.
 use Prim.Native.Nat.{ℕ, zero, suc, _+_, _≤_, _<_}
 use native.Mathlib.Omega.{arith}
-use native.Mathlib.Nat.{zero-add, suc-add, add-suc, add-zero}
-use mathlib.Core.Path.{_≡_, refl, sym, ap, subst}
+use native.Mathlib.Nat.{zero-add, suc-add}
+use mathlib.Core.Path.{_≡_, refl, ap}
 use mathlib.Core.List.{List}
 use mathlib.Core.Bool.{true}
-use mathlib.Core.Logic.{_↔_}
 use lib.ListN.{length}
-use Rattle.graph.specs.Graph.{Graph, Part, Valid, Edge, Chain, stay, step, Reach, Same, IsLabel, all, graph, rev}
+use Rattle.graph.specs.Graph.{Graph, Part, Valid, Edge, Chain, stay, step, Reach, Same, IsLabel, graph, rev}
 
 module _ {g : Graph} {P : Part} where
   pub chain-first : {h u v : ℕ} → Chain g P h u v → P u
@@ -69,24 +68,21 @@ valid-rev ok =
       to-low = ok .from-low;
     }
 
-pub edge-rev : {g : Graph} {e u v : ℕ} → Valid g → Edge g e u v → Edge (rev g) e v u
-edge-rev ok x = record { low = x .low; counts = x .counts; leaves = x .enters; enters = x .leaves }
+pub edge-rev : {g : Graph} {e u v : ℕ} → Edge g e u v → Edge (rev g) e v u
+edge-rev x = record { low = x .low; counts = x .counts; leaves = x .enters; enters = x .leaves }
 
-pub chain-rev : {g : Graph} {P : Part} {h u v : ℕ} → Valid g → Chain g P h u v → Chain (rev g) P h v u
-chain-rev ok (stay p) = stay p
-chain-rev ok (step e p x c) = chain-snoc e (chain-rev ok c) (edge-rev ok x) p
+pub chain-rev : {g : Graph} {P : Part} {h u v : ℕ} → Chain g P h u v → Chain (rev g) P h v u
+chain-rev (stay p) = stay p
+chain-rev (step e p x c) = chain-snoc e (chain-rev c) (edge-rev x) p
 
-pub chain-rev-iff : {g : Graph} {P : Part} {h u v : ℕ} → Valid g → Chain g P h u v ↔ Chain (rev g) P h v u
-chain-rev-iff ok = (chain-rev ok, chain-rev (valid-rev ok))
+pub reach-rev : {g : Graph} {P : Part} {u v : ℕ} → Reach g P u v → Reach (rev g) P v u
+reach-rev r = (r .0, chain-rev (r .1))
 
-pub reach-rev : {g : Graph} {P : Part} {u v : ℕ} → Valid g → Reach g P u v → Reach (rev g) P v u
-reach-rev ok r = (r .0, chain-rev ok (r .1))
+pub same-rev : {g : Graph} {u v : ℕ} → Same g u v → Same (rev g) u v
+same-rev s = record { there = reach-rev (s .back); back = reach-rev (s .there) }
 
-pub same-rev : {g : Graph} {u v : ℕ} → Valid g → Same g u v → Same (rev g) u v
-same-rev ok s = record { there = reach-rev ok (s .back); back = reach-rev ok (s .there) }
-
-pub label-rev : {g : Graph} {v l : ℕ} → Valid g → IsLabel g v l → IsLabel (rev g) v l
-label-rev ok l = record { member = same-rev ok (l .member); least = λ w s. l .least w (same-rev (valid-rev ok) s) }
+pub label-rev : {g : Graph} {v l : ℕ} → IsLabel g v l → IsLabel (rev g) v l
+label-rev l = record { member = same-rev (l .member); least = λ w s. l .least w (same-rev s) }
 
 -- components
 module _ {g : Graph} where
@@ -120,10 +116,6 @@ module _ {g : Graph} (ok : Valid g) where
   pub chain-to-low : {P : Part} {h u v : ℕ} → Chain g P h u v → u < g .n → v < g .n
   chain-to-low (stay p) l = l
   chain-to-low (step e p x c) l = chain-to-low c (edge-to-low x)
-
-  pub chain-from-low : {P : Part} {h u v : ℕ} → Chain g P h u v → v < g .n → u < g .n
-  chain-from-low (stay p) l = l
-  chain-from-low (step e p x c) l = edge-from-low x
 
 pub same-low : {g : Graph} {u v : ℕ} → Valid g → Same g u v → u < g .n → v < g .n
 same-low ok s l = chain-to-low ok (s .there .1) l

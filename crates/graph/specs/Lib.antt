@@ -11,4 +11,3 @@ pub mod Paths
 pub mod Pivot
 pub mod Summary
 pub mod Refusal
-pub mod Memory

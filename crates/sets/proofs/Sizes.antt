@@ -52,5 +52,8 @@ module _ (w : List ℕ) (n : ℕ) where
   ])
 
   -- the sum of the bits below n is the number of vertices
+  pub bits-many : (k : ℕ) → k ≤ n → tally (bit w) k ≡ many (members n w) k
+  bits-many k l = tally-ext (bit w) (λ v. cond (members n w v) 1 0) k (λ v h. sym (member-bit v (omega arith))) ∙ sym (many-tally (members n w) k)
+
   pub size-many : tally (bit w) n ≡ many (members n w) n
-  size-many = tally-ext (bit w) (λ v. cond (members n w v) 1 0) n (λ v l. sym (member-bit v l)) ∙ sym (many-tally (members n w) n)
+  size-many = bits-many n (omega arith)

@@ -11,7 +11,7 @@ use lib.Bits.{bitAnd, bitOr}
 use lib.Pow.{pow-lt}
 use Rattle.graph.specs.Limits.{wordsOf}
 use Rattle.graph.specs.Sets.{bit}
-use Rattle.graph.specs.Memory.{Zeroed}
+use Rattle.memory.specs.Memory.{Zeroed}
 use Rattle.sets.specs.Changes.{Added, Removed, Clipped}
 use Rattle.sets.proofs.Digits.{or-at, and-at, one-at, one-else, not-at, shifted, small-at, mask-low, mask-high}
 

@@ -19,24 +19,6 @@ loop-holds : tie.Need-loop-holds Inv-loop μ-loop
 unfolding tally
 loop-holds c = omega arith
 
-mul-s : tie.Need-mul-s Inv-loop μ-loop
-mul-s c = omega arith
-
-shared-slice-read-s : tie.Need-shared-slice-read-s Inv-loop μ-loop
-shared-slice-read-s c = omega arith
-
-cast-s : tie.Need-cast-s Inv-loop μ-loop
-cast-s c = omega (arith, ones-le 64 _ (c .shared-slice-known .given (c .before .before .loop .i) .fits))
-
-add-s : tie.Need-add-s Inv-loop μ-loop
-add-s c = omega (arith, ones-le 64 _ (c .shared-slice-known .given (c .before .before .loop .i) .fits))
-
-add-i : tie.Need-add-i Inv-loop μ-loop
-add-i c = omega arith
-
-loop-less : tie.Need-loop-less Inv-loop μ-loop
-loop-less c = omega arith
-
 loop-again : tie.Need-loop-again Inv-loop μ-loop
 loop-again c =
     let g = c .shared-slice-known .given (c .before .before .loop .i) .fits in
@@ -52,11 +34,11 @@ size-spec =
     Inv-loop
     μ-loop
     loop-holds
-    mul-s
-    shared-slice-read-s
-    cast-s
-    add-s
-    add-i
-    loop-less
+    (λ c. omega arith)
+    (λ c. omega arith)
+    (λ c. omega (arith, ones-le 64 _ (c .shared-slice-known .given (c .before .before .loop .i) .fits)))
+    (λ c. omega (arith, ones-le 64 _ (c .shared-slice-known .given (c .before .before .loop .i) .fits)))
+    (λ c. omega arith)
+    (λ c. omega arith)
     loop-again
     returns)

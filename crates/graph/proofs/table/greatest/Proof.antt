@@ -14,24 +14,6 @@ Inv-loop xs top₀ i₀ top i = (i ≤ length xs) × Greatest i xs top
 abbrev μ-loop : tie.MeasureT-loop
 μ-loop xs top₀ i₀ top i = length xs - i
 
-loop-holds : tie.Need-loop-holds Inv-loop μ-loop
-loop-holds c = (omega arith, greatest-none _)
-
-mul-greater : tie.Need-mul-greater Inv-loop μ-loop
-mul-greater c = omega arith
-
-shared-slice-read-greater : tie.Need-shared-slice-read-greater Inv-loop μ-loop
-shared-slice-read-greater c = omega arith
-
-greater-requires : tie.Need-greater-requires Inv-loop μ-loop
-greater-requires c κs = search needs
-
-add-i : tie.Need-add-i Inv-loop μ-loop
-add-i c = omega arith
-
-loop-less : tie.Need-loop-less Inv-loop μ-loop
-loop-less c = omega arith
-
 loop-again : tie.Need-loop-again Inv-loop μ-loop
 loop-again c =
     let at-loop = c .before .before .before .loop in
@@ -49,11 +31,11 @@ greatest-spec =
     (tie.spec
     Inv-loop
     μ-loop
-    loop-holds
-    mul-greater
-    shared-slice-read-greater
-    greater-requires
-    add-i
-    loop-less
+    (λ c. (omega arith, greatest-none _))
+    (λ c. search needs)
+    (λ c. search needs)
+    (λ c κs. search needs)
+    (λ c. search needs)
+    (λ c. search needs)
     loop-again
     returns)

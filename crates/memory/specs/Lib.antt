@@ -1,0 +1,3 @@
+pub mod Memory
+pub mod Decomposer
+pub mod Writer
