@@ -3,7 +3,7 @@ ghost use Rattle.graph.specs.Arrows.{Some, Every};
 ghost use Rattle.graph.specs.Parts.{only};
 ghost use Rattle.paint.specs.Distances.{Measured, Queued, Has, HasOr, RoundsAsk, MeasureAsk};
 
-// Round after round from the k0 starts of the queue: what has the colour a gets its distance from them. The queue's length.
+// Level after level from the k0 starts of the queue: what has the colour a gets its distance from them. The queue's length.
 pub fn rounds(n: usize, w: &mut [u32], ix: usize, b: usize, a: u32, k0: usize) -> usize
     requires { ⌜ Some n (λ g. RoundsAsk g a ix b (now w) k0) ⌝ }
     ensures { λ k'. ⌜ Every n (λ g. RoundsAsk g a ix b (now (w .entry)) k0 → Measured g b (HasOr a n b (now (w .entry)) k0) (Queued n b (now (w .entry)) k0) (now (w .entry)) (now (w .exit)) k') ⌝ }

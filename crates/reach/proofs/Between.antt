@@ -5,48 +5,29 @@ use native.Mathlib.Decide.{ℕ-discrete}
 use mathlib.Core.Path.{_≡_, refl, sym, ap, _∙_}
 use mathlib.Core.Logic.{_⊎_, inl, inr}
 use mathlib.Core.List.{List}
-use lib.ListN.{length, getD, set, length-set}
-use lib.Seq.{getD-set-same, getD-set-other}
+use lib.ListN.{length, getD}
 use Rattle.graph.specs.Sets.{bit}
-use Rattle.graph.specs.Memory.{Zeroed}
+use Rattle.memory.specs.Memory.{Zeroed}
 use Rattle.sets.specs.Changes.{Added, Joined, Shared, Clipped}
 use Rattle.sets.proofs.Store.{empty-bit}
-use Rattle.reach.specs.Steps.{Coloured, ChooseAsk, Chosen, Gathered}
-
--- the first i vertices are coloured
-module _ (b : ℕ) (permitted w : List ℕ) where
-  pub coloured-none : Coloured 0 b permitted w w
-  coloured-none = record { bits = λ v h. absurd (omega arith); frame = record { long = refl; low = λ j h. refl; high = λ j h. refl } }
-
-  pub coloured-more : (i : ℕ) (w' : List ℕ) (y : ℕ) → b + i < length w → y ≡ bit permitted i → Coloured i b permitted w w' → Coloured (i + 1) b permitted w (set w' (b + i) y)
-  coloured-more i w' y l e z = record {
-    bits = λ v h. elim (ℕ-discrete v i) as (λ _. getD (set w' (b + i) y) (b + v) 0 ≡ bit permitted v) [
-      | yes q ↦ rw q (getD-set-same w' (b + i) y 0 (omega (arith, z .frame .long)) ∙ e)
-      | no q ↦ getD-set-other w' (b + i) (b + v) y 0 (omega arith) ∙ z .bits v (omega arith)
-    ];
-    frame = record {
-      long = length-set w' (b + i) y ∙ z .frame .long;
-      low = λ j h. getD-set-other w' (b + i) j y 0 (omega arith) ∙ z .frame .low j h;
-      high = λ j h. getD-set-other w' (b + i) j y 0 (omega arith) ∙ z .frame .high j (omega arith);
-    };
-  }
+use Rattle.reach.specs.Steps.{ChooseAsk, Chosen, Gathered}
 
 -- the set is emptied, the starts are joined to it, what is permitted is kept, and the bits at n and above are taken off
-pub chosen : (n : ℕ) (starts permitted r r₁ r₂ r₃ r₄ : List ℕ) → ChooseAsk n starts permitted r → Zeroed (length starts) r r₁ → Joined r₁ starts r₂ → Shared r₂ permitted r₃ → Clipped n r₃ r₄
+pub chosen : {n : ℕ} {starts permitted r r₁ r₂ r₃ r₄ : List ℕ} → ChooseAsk n starts permitted r → Zeroed (length starts) r r₁ → Joined r₁ starts r₂ → Shared r₂ permitted r₃ → Clipped n r₃ r₄
     → Chosen n starts permitted r r₄
-chosen n starts permitted r r₁ r₂ r₃ r₄ a z j s p = record {
+chosen {n} {starts} {permitted} {r} {r₁} a z j s p = record {
   long = p .long ∙ s .long ∙ j .long ∙ z .long;
   below = λ v l. p .below v l ∙ s .bits v ∙ ap (λ (x : ℕ). min x (bit permitted v)) (j .bits v ∙ omega (arith, empty-bit (length starts) r r₁ (omega (arith, a .starts-long, a .set-long)) z v));
   above = p .above;
 }
 
 -- the first i of the queue are in the set
-module _ (q : ℕ) (w r : List ℕ) where
+module _ {q : ℕ} {w r : List ℕ} where
   pub gathered-none : Gathered q 0 w r r
   gathered-none = record { long = refl; kept = λ v h. h; listed = λ i h. absurd (omega arith); only = λ v h. inl h }
 
-  pub gathered-more : (i : ℕ) (r' r'' : List ℕ) → Gathered q i w r r' → Added (getD w (q + i) 0) r' r'' → Gathered q (i + 1) w r r''
-  gathered-more i r' r'' z a = record {
+  pub gathered-more : {i : ℕ} {r' r'' : List ℕ} → Gathered q i w r r' → Added (getD w (q + i) 0) r' r'' → Gathered q (i + 1) w r r''
+  gathered-more {i} {r'} {r''} z a = record {
     long = a .long ∙ z .long;
     kept = λ v h. stays v (z .kept v h);
     listed = λ j h. elim (ℕ-discrete j i) as (λ _. bit r'' (getD w (q + j) 0) ≡ 1) [

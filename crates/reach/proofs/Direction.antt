@@ -4,7 +4,7 @@ use Prim.Native.Nat.{ℕ, _+_, _*_}
 use mathlib.Core.Path.{_≡_, sym, subst, _∙_}
 use mathlib.Core.List.{List}
 use Rattle.graph.specs.Graph.{Graph, graph, rev, edges}
-use Rattle.graph.specs.Memory.{Framed}
+use Rattle.memory.specs.Memory.{Framed}
 use Rattle.graph.proofs.Chains.{valid-rev, graph-turned}
 use Rattle.index.specs.Build.{OneAsk, One}
 use Rattle.index.proofs.Asks.{valid-column}

@@ -11,8 +11,8 @@ use Rattle.graph.specs.Numbers.{tally, many}
 use Rattle.graph.specs.Graph.{graph}
 use Rattle.graph.specs.Arrows.{SomeOf, EveryOf, arrows}
 use Rattle.graph.specs.Sets.{bit, members}
-use Rattle.graph.specs.Memory.{Zeroed, Framed, ClearAsk, Cleared}
-use Rattle.graph.proofs.Memory.{zeroed-after}
+use Rattle.memory.specs.Memory.{Zeroed, Framed, ClearAsk, Cleared}
+use Rattle.memory.proofs.Memory.{zeroed-after}
 use Rattle.graph.proofs.Refusals.{or-none, or-left-none, given-none, not-lacking, Passed, table-passed, passed-valid}
 use Rattle.index.specs.Build.{One}
 use Rattle.sets.proofs.Sizes.{sized, size-below, size-many}
@@ -76,32 +76,32 @@ module _ (c : Call) (e : searchRefusal c ≡ 0) where
     enough = record { numbers = omega (arith, a .memory .numbers); words = a .memory .words };
   }
 
-module _ (c : Call) (e : searchRefusal c ≡ 0) (w₁ w₂ r w ws : List ℕ) (k seen : ℕ) where
-  vertices : length r ≡ length (c .reached) → ((v : ℕ) → c .n ≤ v → bit r v ≡ 0) → k ≡ tally (bit r) (length r * 64) → k ≡ many (members (c .n) r) (c .n)
-  vertices l z q = q ∙ size-below r (c .n) (length r * 64) (omega (arith, accepted c e .reached)) z ∙ size-many r (c .n)
+module _ (c : Call) (e : searchRefusal c ≡ 0) where
+  vertices : (r : List ℕ) {k : ℕ} → length r ≡ length (c .reached) → ((v : ℕ) → c .n ≤ v → bit r v ≡ 0) → k ≡ tally (bit r) (length r * 64) → k ≡ many (members (c .n) r) (c .n)
+  vertices r l z q = q ∙ size-below r (c .n) (length r * 64) (omega (arith, accepted c e .reached)) z ∙ size-many r (c .n)
 
-  zeroed : Framed 0 (3 * c .n + 1 + length (c .sources)) (c .numbers) w₂ → Zeroed (numbersNeeded (c .n) (length (c .sources))) w₂ w → Zeroed (numbersNeeded (c .n) (length (c .sources))) (c .numbers) w
+  zeroed : {w₂ w : List ℕ} → Framed 0 (3 * c .n + 1 + length (c .sources)) (c .numbers) w₂ → Zeroed (numbersNeeded (c .n) (length (c .sources))) w₂ w → Zeroed (numbersNeeded (c .n) (length (c .sources))) (c .numbers) w
   zeroed f z = zeroed-after (f .long) (λ j l. f .high j (omega arith)) z
 
   -- the index was made, the search found the set, the set was measured, and the working memory cleared
-  pub finished : (backward : Bool) → One (tableOf c backward) (c .numbers) w₁ → Found (tableOf c backward) (c .starts) (c .permitted) w₁ (c .reached) w₂ r seen → k ≡ tally (bit r) (length r * 64)
+  pub finished : (backward : Bool) {w₁ w₂ r w ws : List ℕ} {k seen : ℕ} → One (tableOf c backward) (c .numbers) w₁ → Found (tableOf c backward) (c .starts) (c .permitted) w₁ (c .reached) w₂ r seen → k ≡ tally (bit r) (length r * 64)
       → Cleared (c .n) (length (c .sources)) w₂ w (c .words) ws → Finished c backward r w ws k seen
-  finished true o f q x = record {
+  finished true {r = r} o f q x = record {
     long = f .long;
     sound = f .sound;
     complete = f .complete;
     above = f .above;
-    vertices = vertices (f .long) (f .above) q;
+    vertices = vertices r (f .long) (f .above) q;
     edges = f .count;
     numbers = zeroed (laid-framed o (f .frame)) (x .numbers-zero);
     words = x .words-zero;
   }
-  finished false o f q x = record {
+  finished false {r = r} o f q x = record {
     long = f .long;
     sound = f .sound;
     complete = f .complete;
     above = f .above;
-    vertices = vertices (f .long) (f .above) q;
+    vertices = vertices r (f .long) (f .above) q;
     edges = f .count;
     numbers = zeroed (laid-framed o (f .frame)) (x .numbers-zero);
     words = x .words-zero;

@@ -3,40 +3,34 @@ use Prim.Native.Nat.{ℕ, _≤_, _<_, _+_}
 use native.Mathlib.Omega.{arith}
 use native.Mathlib.Decide.{ℕ-discrete, decLt}
 use mathlib.Core.Path.{_≡_, sym, ap, subst, _∙_}
-use mathlib.Core.Bool.{Bool, not, _&&_}
+use mathlib.Core.Bool.{Bool, _&&_}
 use mathlib.Core.Logic.{⊎-elim}
 use mathlib.Core.List.{List}
-use lib.Dec.{T, eqb, ltb, eqb→eq, ltb→lt, T-not, not-T}
+use lib.Dec.{T, eqb, ltb, eqb→eq, ltb→lt}
 use borrow.Author.Tests.{lt-ltb}
-use Rattle.graph.specs.Numbers.{many}
-use Rattle.graph.specs.Graph.{Graph, Part, Valid, Chain, stay, step, edges, from}
+use Rattle.graph.specs.Graph.{Graph, Part, Valid, stay, edges, from}
 use Rattle.graph.specs.Parts.{Fwd}
 use Rattle.graph.specs.Search.{looked}
 use Rattle.graph.specs.Sets.{bit, Members, members}
 use Rattle.graph.proofs.Tests.{and-split, and-make, eq-T}
 use Rattle.graph.proofs.Counts.{many-mono}
-use Rattle.graph.proofs.Chains.{chain-first, chain-last, chain-wider, edge-to-low}
+use Rattle.graph.proofs.Chains.{chain-first, chain-last, chain-wider}
 use Rattle.index.proofs.Moved.{held-kept}
-use Rattle.paint.specs.Colours.{col, Opens, opens, Shut, Hit, painted}
+use Rattle.paint.specs.Colours.{Coloured, Opens, Hit, painted}
+use Rattle.memory.specs.Decomposer.{col}
 use Rattle.paint.specs.Paint.{LevelAsk, Spread, Begun, SearchAsk, Searched}
-use Rattle.paint.proofs.Painting.{paint-first, paint-opens, opens-T, T-opens}
-use Rattle.paint.proofs.Spreading.{begun-ask, begun-searched}
+use Rattle.paint.proofs.Painting.{paint-first, paint-opens}
+use Rattle.paint.proofs.Components.{painted-hit}
+use Rattle.paint.proofs.Spreading.{chain-low, begun-ask, begun-searched}
 use Rattle.sets.proofs.Store.{bit-lt}
-use Rattle.reach.specs.Steps.{reaching, ColourAsk, Coloured, Chosen, BeginAsk, BegunBelow, GatherAsk, Gathered, RunAsk, Found}
+use Rattle.reach.specs.Steps.{reaching, Chosen, BeginAsk, BegunBelow, GatherAsk, Gathered, RunAsk, Found}
 use Rattle.reach.proofs.Starts.{reaching-still}
 
--- a chain within the table, moved to a set that agrees below n
-chain-low : {g : Graph} {P Q : Part} → Valid g → ((v : ℕ) → v < g .n → P v → Q v) → {h u v : ℕ} → u < g .n → Chain g P h u v → Chain g Q h u v
-chain-low ok f l (stay p) = stay (f _ l p)
-chain-low ok f l (step e p y c) = step e (f _ l p) y (chain-low ok f (edge-to-low ok y) c)
-
--- sets that agree on the sources have the same number of edges
-looked-same : (g : Graph) (p q : ℕ → Bool) → ((e : ℕ) → e < edges g → T (p (from g e)) → T (q (from g e))) → ((e : ℕ) → e < edges g → T (q (from g e)) → T (p (from g e))) → looked g p ≡ looked g q
+-- a set with all the vertices of another has all its edges
+looked-less : (g : Graph) (p q : ℕ → Bool) → Valid g → ((v : ℕ) → v < g .n → T (p v) → T (q v)) → looked g p ≤ looked g q
 unfolding looked
-looked-same g p q f h =
-    let one : (p q : ℕ → Bool) → ((e : ℕ) → e < edges g → T (p (from g e)) → T (q (from g e))) → many (λ e. g .counted e && p (from g e)) (edges g) ≤ many (λ e. g .counted e && q (from g e)) (edges g) =
-    λ p q f. many-mono (λ e. g .counted e && p (from g e)) (λ e. g .counted e && q (from g e)) (edges g) (λ e l t. let s = and-split (g .counted e) (p (from g e)) t in and-make (g .counted e) (q (from g e)) (s .0) (f e l (s .1))) in
-    omega (arith, one p q f, one q p h)
+looked-less g p q ok f = many-mono (λ e. g .counted e && p (from g e)) (λ e. g .counted e && q (from g e)) (edges g)
+    (λ e l t. let (x, y) = and-split (g .counted e) (p (from g e)) t in and-make (g .counted e) (q (from g e)) x (f (from g e) (ok .from-low e l) y))
 
 pub members-in : (n : ℕ) (r : List ℕ) (v : ℕ) → v < n → bit r v ≡ 1 → T (members n r v)
 members-in n r v l e = rw (lt-ltb v n l) (eq-T (bit r v) 1 e)
@@ -44,19 +38,16 @@ members-in n r v l e = rw (lt-ltb v n l) (eq-T (bit r v) 1 e)
 pub members-out : (n : ℕ) (r : List ℕ) (v : ℕ) → T (members n r v) → (v < n) × (bit r v ≡ 1)
 members-out n r v t = let s = and-split (ltb v n) (eqb (bit r v) 1) t in (ltb→lt v n (s .0), eqb→eq (bit r v) 1 (s .1))
 
-module _ (g : Graph) (starts permitted w₀ r₀ : List ℕ) (a : RunAsk g starts permitted w₀ r₀) where
+module _ {g : Graph} {starts permitted w₀ r₀ : List ℕ} (a : RunAsk g starts permitted w₀ r₀) where
   abbrev n : ℕ
   n = g .n
 
   abbrev b : ℕ
   b = n + 1 + edges g
 
-  pub colour-ask : ColourAsk n b permitted w₀
-  colour-ask = record { small = a .table .small; room = omega (arith, a .table .room); words = a .sets .permitted-long }
-
-  module _ (w₁ r₁ : List ℕ) (c : Coloured n b permitted w₀ w₁) (h : Chosen n starts permitted r₀ r₁) where
+  module _ {w₁ r₁ : List ℕ} (c : Coloured n b (bit permitted) w₀ w₁) (h : Chosen n starts permitted r₀ r₁) where
     pub begin-ask : BeginAsk n b r₁ w₁
-    begin-ask = record { small = a .table .small; fits = omega (arith, a .table .room, c .frame .long); words = h .long ∙ a .sets .set-long }
+    begin-ask = record { small = a .table .small; fits = omega (arith, a .table .room, c .long); words = h .long ∙ a .sets .set-long }
 
     search-ask : SearchAsk g reaching 0 b w₁
     search-ask = record {
@@ -64,7 +55,7 @@ module _ (g : Graph) (starts permitted w₀ r₀ : List ℕ) (a : RunAsk g start
         valid = a .table .valid;
         few = a .table .few;
         below = omega arith;
-        index = held-kept g 0 w₀ w₁ (λ j _ q. c .frame .low j (omega arith)) (a .index);
+        index = held-kept g 0 w₀ w₁ (λ j _ q. c .low j (omega arith)) (a .index);
       };
       small = a .table .small;
       fits = begin-ask .fits;
@@ -73,11 +64,11 @@ module _ (g : Graph) (starts permitted w₀ r₀ : List ℕ) (a : RunAsk g start
 
     -- a colour is open exactly if its vertex is permitted
     opened : (v : ℕ) → v < n → Opens reaching (col b w₁ v) → bit permitted v ≡ 1
-    opened v l q = ⊎-elim (λ e. sym (c .bits v l) ∙ e) (λ e. sym (c .bits v l) ∙ e) (paint-opens 1 2 1 2 (col b w₁ v) q)
+    opened v l q = ⊎-elim (λ e. sym (c .colours v l) ∙ e) (λ e. sym (c .colours v l) ∙ e) (paint-opens 1 2 1 2 (col b w₁ v) q)
 
     open-at : (v : ℕ) → v < n → bit permitted v ≡ 1 → Opens reaching (col b w₁ v)
     open-at v l e q =
-        let y : col b w₁ v ≡ 1 = c .bits v l ∙ e in
+        let y : col b w₁ v ≡ 1 = c .colours v l ∙ e in
         let z : _≡_ {A = ℕ} 2 1 = sym (paint-first 1 2 1 2) ∙ ap reaching (sym y) ∙ q ∙ y in
         omega arith
 
@@ -97,14 +88,14 @@ module _ (g : Graph) (starts permitted w₀ r₀ : List ℕ) (a : RunAsk g start
     abbrev Chosen·starts : Part
     Chosen·starts v = bit r₁ v ≡ 1
 
-    module _ (w₂ : List ℕ) (k : ℕ) (z : BegunBelow n n b r₁ w₁ w₂ k) where
+    module _ {w₂ : List ℕ} {k : ℕ} (z : BegunBelow n n b r₁ w₁ w₂ k) where
       begun : Begun g reaching b Chosen·starts w₁ w₂ k
       begun = record { grew = z .grew; low = chosen-low; shut = λ v i. z .shut v (chosen-low v i) i }
 
       pub spread-ask : LevelAsk g reaching 0 b 0 w₂ k
       spread-ask = begun-ask g reaching 0 b w₁ search-ask Chosen·starts w₂ k begun
 
-      module _ (w₃ : List ℕ) (k' seen : ℕ) (s : Spread g reaching b w₂ k k' w₃ k' seen) where
+      module _ {w₃ : List ℕ} {k' seen : ℕ} (s : Spread g reaching b w₂ k k' w₃ k' seen) where
         searched : Searched g reaching b Chosen·starts w₁ w₃ k' seen
         searched = begun-searched g reaching 0 b w₁ search-ask Chosen·starts w₂ k begun w₃ k' seen s
 
@@ -132,7 +123,7 @@ module _ (g : Graph) (starts permitted w₀ r₀ : List ℕ) (a : RunAsk g start
         reached-low : (v : ℕ) → Reaches v → v < n
         reached-low v (x, i, (d, p)) = chain-last p .0
 
-        module _ (r₂ : List ℕ) (t : Gathered (b + n) k' w₃ r₁ r₂) where
+        module _ {r₂ : List ℕ} (t : Gathered (b + n) k' w₃ r₁ r₂) where
           bit-hit : (v : ℕ) → bit r₂ v ≡ 1 → Hits v
           bit-hit v e = ⊎-elim {C = Hits v}
               (λ i. (v, i, (0, stay (open-at v (chosen-low v i) (chosen-permitted v i)))))
@@ -156,22 +147,10 @@ module _ (g : Graph) (starts permitted w₀ r₀ : List ℕ) (a : RunAsk g start
 
           -- painted is reached
           painted-in : (v : ℕ) → v < n → T (painted reaching b w₁ w₃ v) → T (members n r₂ v)
-          painted-in v l p =
-              let q = and-split (opens reaching (col b w₁ v)) (not (opens reaching (col b w₃ v))) p in
-              ⊎-elim {C = T (members n r₂ v)}
-              (λ i. members-in n r₂ v l (hit-bit v l (i .0)))
-              (λ i. absurd (T-not (opens reaching (col b w₃ v)) (q .1) (rw (i .1) (q .0))))
-              (searched .each v l)
+          painted-in v l p = members-in n r₂ v l (hit-bit v l (painted-hit searched reaching-still v l .0 p))
 
           in-painted : (v : ℕ) → v < n → T (members n r₂ v) → T (painted reaching b w₁ w₃ v)
-          in-painted v l p =
-              let e = members-out n r₂ v p .1 in
-              let q : Hits v = bit-hit v e in
-              and-make (opens reaching (col b w₁ v)) (not (opens reaching (col b w₃ v))) (opens-T reaching (col b w₁ v) (chain-last (q .2 .1)))
-              (not-T (opens reaching (col b w₃ v)) (λ y. T-opens reaching (col b w₃ v) y (⊎-elim {C = Shut reaching (col b w₃ v)}
-              (λ i. rw (i .1) (reaching-still (col b w₁ v)))
-              (λ i. absurd (i .0 q))
-              (searched .each v l))))
+          in-painted v l p = painted-hit searched reaching-still v l .1 (bit-hit v (members-out n r₂ v p .1))
 
           pub found : Found g starts permitted w₀ r₀ w₃ r₂ seen
           found = record {
@@ -179,10 +158,15 @@ module _ (g : Graph) (starts permitted w₀ r₀ : List ℕ) (a : RunAsk g start
             sound = sound;
             complete = complete;
             above = above;
-            count = searched .looked ∙ looked-same g (painted reaching b w₁ w₃) (members n r₂) (λ e l. painted-in (from g e) (a .table .valid .from-low e l)) (λ e l. in-painted (from g e) (a .table .valid .from-low e l));
+            count = omega (
+              arith,
+              searched .looked,
+              looked-less g (painted reaching b w₁ w₃) (members n r₂) (a .table .valid) painted-in,
+              looked-less g (members n r₂) (painted reaching b w₁ w₃) (a .table .valid) in-painted,
+            );
             frame = record {
-              long = searched .kept .long ∙ c .frame .long;
+              long = searched .kept .long ∙ c .long;
               low = λ j l. absurd (omega arith);
-              high = λ j l. searched .kept .high j (omega arith) ∙ c .frame .high j (omega arith);
+              high = λ j l. searched .kept .high j (omega arith) ∙ c .high j (omega arith);
             };
           }

@@ -8,7 +8,7 @@ use mathlib.Core.List.{List}
 use Rattle.graph.specs.Numbers.{many}
 use Rattle.graph.specs.Sets.{bit, members}
 use Rattle.graph.specs.Search.{looked}
-use Rattle.graph.proofs.Memory.{zeroed-one}
+use Rattle.memory.proofs.Memory.{zeroed-one}
 use Rattle.sets.proofs.Store.{bit-lt}
 use Rattle.sets.proofs.Unique.{Words, set-one}
 use Rattle.reach.specs.Search.{Call, tableOf, Finished, Promise}

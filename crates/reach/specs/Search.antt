@@ -10,7 +10,7 @@ use Rattle.graph.specs.Graph.{Graph, Part, graph, turned}
 use Rattle.graph.specs.Parts.{Fwd}
 use Rattle.graph.specs.Search.{looked}
 use Rattle.graph.specs.Sets.{bit, Members, members}
-use Rattle.graph.specs.Memory.{Zeroed}
+use Rattle.memory.specs.Memory.{Zeroed}
 use Rattle.graph.specs.Refusal.{given, _or_, tableRefusal, lacking}
 use Rattle.sets.specs.Sizes.{ill-sized}
 use Rattle.reach.specs.declared.Answer.{Answer}

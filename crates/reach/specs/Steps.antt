@@ -9,9 +9,10 @@ use Rattle.graph.specs.Graph.{Graph, Valid, edges}
 use Rattle.graph.specs.Parts.{Fwd}
 use Rattle.graph.specs.Search.{looked}
 use Rattle.graph.specs.Sets.{bit, Members, members}
-use Rattle.graph.specs.Memory.{Framed}
+use Rattle.memory.specs.Memory.{Framed}
 use Rattle.index.specs.Index.{Held}
-use Rattle.paint.specs.Colours.{paint, col, Opens, Shut}
+use Rattle.paint.specs.Colours.{paint, Opens, Shut}
+use Rattle.memory.specs.Decomposer.{col}
 use Rattle.paint.specs.Paint.{Grew, VisitAsk}
 
 -- the colours of a search: 0 is not permitted, 1 permitted, 2 reached
@@ -22,11 +23,6 @@ pub record ColourAsk (n b : ℕ) (permitted w : List ℕ) : Type 0 where
   pub small : n ≤ mostVertices
   pub room : b + n ≤ length w
   pub words : length permitted ≡ wordsOf n
-
--- The colour of each vertex is its bit in the permitted set.
-pub record Coloured (n b : ℕ) (permitted w w' : List ℕ) : Type 0 where
-  pub bits : (v : ℕ) → v < n → col b w' v ≡ bit permitted v
-  pub frame : Framed b (b + n) w w'
 
 pub record ChooseAsk (n : ℕ) (starts permitted r : List ℕ) : Type 0 where
   pub starts-long : length starts ≡ wordsOf n

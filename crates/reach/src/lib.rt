@@ -6,7 +6,6 @@ mod steps;
 
 use graph::limits;
 use graph::table;
-use index::memory;
 
 // What a search answers: how many vertices it reached and how many edges it looked at, or the number by which it refuses.
 pub enum Answer {

@@ -1,10 +1,11 @@
 // A search in one direction: sets become colours, the search core paints them, and what was painted becomes a set.
 ghost use Rattle.graph.specs.Graph.{graph, turned};
 ghost use Rattle.graph.specs.Arrows.{SomeOf, EveryOf};
+ghost use Rattle.graph.specs.Sets.{bit};
 ghost use Rattle.index.specs.Build.{One};
-ghost use Rattle.reach.specs.Steps.{ColourAsk, Coloured, ChooseAsk, Chosen, BeginOneAsk, BegunOne, BeginAsk, BegunBelow, GatherAsk, Gathered, TableAsk, RunAsk, Found};
+ghost use Rattle.paint.specs.Colours.{Coloured};
+ghost use Rattle.reach.specs.Steps.{ColourAsk, ChooseAsk, Chosen, BeginOneAsk, BegunOne, BeginAsk, BegunBelow, GatherAsk, Gathered, TableAsk, RunAsk, Found};
 use index::build;
-use index::memory;
 
 // The colours: a permitted vertex becomes a reached one; 0 is not permitted.
 const PERMITTED: u32 = 1;
@@ -14,7 +15,7 @@ const REACHED: u32 = 2;
 // The colour of a vertex is its bit in the permitted set; the colours stand in w from b on.
 fn colour(n: usize, permitted: &[u64], w: &mut [u32], b: usize)
     requires { ⌜ ColourAsk n b (now permitted) (now w) ⌝ }
-    ensures { λ _. ⌜ Coloured n b (now (permitted .entry)) (now (w .entry)) (now (w .exit)) ⌝ }
+    ensures { λ _. ⌜ Coloured n b (bit (now (permitted .entry))) (now (w .entry)) (now (w .exit)) ⌝ }
 {
     let mut v = 0;
     while v < n {
@@ -78,10 +79,10 @@ pub fn neighbours(n: usize, sources: &[u32], targets: &[u32], backward: bool, w:
     ensures { λ _. ⌜ One (turned backward (graph n (now (sources .entry)) (now (targets .entry)))) (now (w .entry)) (now (w .exit)) ⌝ }
 {
     if backward {
-        build::one(targets, sources, n, w);
+        build::one(n, targets, sources, w);
         return;
     }
-    build::one(sources, targets, n, w);
+    build::one(n, sources, targets, w);
 }
 
 // The search along the index at the front of w: r becomes the set of what is reached. The number of edges looked at.

@@ -1,10 +1,3 @@
-pub mod Walks
-pub mod Along
-pub mod Ties
-pub mod Steps
-pub mod Goes
-pub mod Rounds
-pub mod Core
 pub mod Between
 pub mod Whole
 pub mod Unique

@@ -7,16 +7,16 @@ use mathlib.Core.Path.{_≡_, refl, sym, ap, _∙_}
 use mathlib.Core.Bool.{Bool, true, false, cond, _&&_}
 use mathlib.Core.List.{List}
 use lib.ListN.{length}
-use lib.Dec.{T, eqb, ltb, eqb→eq, ltb→lt, lt→ltb}
+use lib.Dec.{T, eqb, ltb, eqb→eq, ltb→lt}
 use Rattle.graph.specs.Limits.{wordsOf, Enough}
 use Rattle.graph.specs.Graph.{Graph, graph, rev}
 use Rattle.graph.specs.Numbers.{table, tally, many, mark}
 use Rattle.graph.specs.Search.{part, trim, trimmed, core}
 use Rattle.graph.specs.Sets.{bit, members}
-use Rattle.graph.specs.Memory.{Zeroed, ClearAsk, Cleared}
-use Rattle.graph.proofs.Memory.{zeroed-after}
-use Rattle.graph.proofs.Tests.{table-same, T-dec, and-l, and-r, and-make, eq-T}
-use Rattle.graph.proofs.Counts.{many-mono}
+use Rattle.memory.specs.Memory.{Zeroed, ClearAsk, Cleared}
+use Rattle.memory.proofs.Memory.{zeroed-after}
+use Rattle.graph.proofs.Tests.{table-same, T-dec, and-l, eq-T}
+use Rattle.graph.proofs.Sums.{tally-ext, many-tally}
 use Rattle.graph.proofs.Chains.{valid-rev}
 use Rattle.graph.proofs.Refusals.{or-none, or-left-none, given-none, not-lacking, Passed, table-passed, passed-valid}
 use Rattle.graph.proofs.Trim.{core-is}
@@ -25,13 +25,14 @@ use Rattle.index.proofs.Asks.{valid-both}
 use Rattle.index.proofs.Counts.{start-all}
 use Rattle.index.proofs.Moved.{held-kept}
 use Rattle.sets.proofs.Store.{bit-lt, empty-bit}
-use Rattle.sets.proofs.Sizes.{sized, size-below, size-many}
-use Rattle.paint.specs.Colours.{col}
-use Rattle.trim.specs.Chain.{own, nxt, Follows}
-use Rattle.trim.specs.Trim.{hued, revAt, TrimAsk, Trimmed}
-use Rattle.trim.specs.Stages.{ColourAsk, Coloured, StringAsk, Strung, CollectAsk, Collected, RunAsk, Ran}
+use Rattle.sets.proofs.Sizes.{sized, size-below}
+use Rattle.memory.specs.Decomposer.{col, own, nxt}
+use Rattle.paint.specs.Colours.{Coloured}
+use Rattle.prune.specs.Chain.{Follows}
+use Rattle.prune.specs.Trim.{hued, revAt, TrimAsk, Trimmed}
+use Rattle.trim.specs.Stages.{hue, StringAsk, Strung, CollectAsk, Collected, RunAsk, Ran}
 use Rattle.trim.specs.Promise.{Call, trimRefusal, leftOf, Finished}
-use Rattle.trim.proofs.Core.{hued-is, is-hued, core-of}
+use Rattle.prune.proofs.Core.{hued-is, is-hued, core-of}
 
 -- tests that hold together are equal
 same-test : (a b : Bool) → (T a → T b) → (T b → T a) → a ≡ b
@@ -39,14 +40,6 @@ same-test true true f g = refl
 same-test true false f g = absurd (f tt)
 same-test false true f g = absurd (g tt)
 same-test false false f g = refl
-
--- a bit is 1 exactly where its mark is set
-pub one-mark : (m : Bool) → _≡_ {A = ℕ} (cond m 1 0) 1 → T m
-one-mark true q = tt
-one-mark false q = absurd (omega arith)
-
-pub mark-one : (m : Bool) → T m → _≡_ {A = ℕ} (cond m 1 0) 1
-mark-one true q = refl
 
 -- the core depends only on which vertices below n are in the part
 pub core-same : (g : Graph) (p p' : ℕ → Bool) → ((v : ℕ) → v < g .n → p v ≡ p' v) → core g p ≡ core g p'
@@ -69,12 +62,9 @@ module _ {n : ℕ} {sources targets part w₀ r₀ : List ℕ} (a : RunAsk (grap
   both-ask = valid-both (a .valid) (a .small) (a .few) (omega (arith, a .room))
 
   module _ {w₁ : List ℕ} (o : Both g w₀ w₁) where
-    pub colour-ask : ColourAsk n b part w₁
-    colour-ask = record { small = a .small; room = omega (arith, a .room, o .long); words = a .part-long }
-
-    module _ {w₂ : List ℕ} (c : Coloured n n b part w₁ w₂) where
+    module _ {w₂ : List ℕ} (c : Coloured n b (hue n part) w₁ w₂) where
       pub string-ask : StringAsk n b w₂
-      string-ask = record { small = a .small; long = omega (arith, a .room, o .long, c .frame .long) }
+      string-ask = record { small = a .small; long = omega (arith, a .room, o .long, c .long) }
 
       module _ {w₃ : List ℕ} {h : ℕ} (s : Strung n b n 0 h w₂ w₃) where
         same-own : (i : ℕ) → i < n → own n b w₃ i ≡ col b w₂ i
@@ -96,13 +86,13 @@ module _ {n : ℕ} {sources targets part w₀ r₀ : List ℕ} (a : RunAsk (grap
             valid = a .valid;
             few = a .few;
             below = omega arith;
-            index = held-kept g 0 w₁ w₃ (λ j _ l. s .low j (omega arith) ∙ c .frame .low j (omega arith)) (o .forward);
+            index = held-kept g 0 w₁ w₃ (λ j _ l. s .low j (omega arith) ∙ c .low j (omega arith)) (o .forward);
           };
           bwd = record {
             valid = valid-rev (a .valid);
             few = a .few;
             below = omega arith;
-            index = held-kept (rev g) (revAt g) w₁ w₃ (λ j _ l. s .low j (omega arith) ∙ c .frame .low j (omega arith)) (o .reverse);
+            index = held-kept (rev g) (revAt g) w₁ w₃ (λ j _ l. s .low j (omega arith) ∙ c .low j (omega arith)) (o .reverse);
           };
           small = a .small;
           long = omega (arith, string-ask .long, s .long);
@@ -156,8 +146,8 @@ module _ {n : ℕ} {sources targets part w₀ r₀ : List ℕ} (a : RunAsk (grap
           ran d = record {
             long = d .long ∙ z .long;
             set = λ v. d .set v ∙ ap (λ (t : Bool). cond t 1 0) (left v ∙ ap (λ (l : List Bool). mark l v) left-same);
-            numbers = t .aside .long ∙ s .long ∙ c .frame .long ∙ o .long;
-            rest = λ j l. t .aside .high j (omega arith) ∙ s .high j (omega arith) ∙ c .frame .high j (omega arith) ∙ o .rest j (omega (arith, start-all (λ e. true) targets (length sources) n));
+            numbers = t .aside .long ∙ s .long ∙ c .long ∙ o .long;
+            rest = λ j l. t .aside .high j (omega arith) ∙ s .high j (omega arith) ∙ c .high j (omega arith) ∙ o .rest j (omega (arith, start-all (λ e. true) targets (length sources) n));
           }
 
 -- THE CALL
@@ -209,15 +199,9 @@ module _ (c : Call) (e : trimRefusal c ≡ 0) where
     above : (v : ℕ) → c .n ≤ v → bit r v ≡ 0
     above v l = z .set v ∙ ap (λ (t : Bool). cond t 1 0) (same-test (mark (leftOf c) v) false (λ t. absurd (omega (arith, low v t))) (λ t. absurd t))
 
-    is-member : (v : ℕ) → v < c .n → T (members (c .n) r v) → T (mark (leftOf c) v)
-    is-member v l t = one-mark (mark (leftOf c) v) (sym (z .set v) ∙ eqb→eq (bit r v) 1 (and-r (ltb v (c .n)) _ t))
-
-    member-is : (v : ℕ) → v < c .n → T (mark (leftOf c) v) → T (members (c .n) r v)
-    member-is v l t = and-make (ltb v (c .n)) _ (lt→ltb v (c .n) l) (eq-T (bit r v) 1 (z .set v ∙ mark-one (mark (leftOf c) v) t))
-
     size : (k : ℕ) → k ≡ tally (bit r) (length r * 64) → k ≡ many (mark (leftOf c)) (c .n)
-    size k q = q ∙ size-below r (c .n) (length r * 64) (omega (arith, accepted .left, z .long)) above ∙ size-many r (c .n)
-        ∙ omega (arith, many-mono (members (c .n) r) (mark (leftOf c)) (c .n) is-member, many-mono (mark (leftOf c)) (members (c .n) r) (c .n) member-is)
+    size k q = q ∙ size-below r (c .n) (length r * 64) (omega (arith, accepted .left, z .long)) above
+        ∙ tally-ext (bit r) (λ v. cond (mark (leftOf c) v) 1 0) (c .n) (λ v l. z .set v) ∙ sym (many-tally (mark (leftOf c)) (c .n))
 
     pub finished : {w ws : List ℕ} {k : ℕ} → k ≡ tally (bit r) (length r * 64) → Cleared (c .n) (length (c .sources)) w₁ w (c .words) ws → Finished c r w ws k
     finished {k = k} q x = record {

@@ -1,6 +1,2 @@
-pub mod Chain
-pub mod Trim
-pub mod Cursor
-pub mod Prune
 pub mod Stages
 pub mod Promise

@@ -9,7 +9,7 @@ use Rattle.graph.specs.Numbers.{many, mark}
 use Rattle.graph.specs.Graph.{graph}
 use Rattle.graph.specs.Search.{core}
 use Rattle.graph.specs.Sets.{bit, members}
-use Rattle.graph.specs.Memory.{Zeroed}
+use Rattle.memory.specs.Memory.{Zeroed}
 use Rattle.graph.specs.Refusal.{given, _or_, tableRefusal, lacking}
 use Rattle.sets.specs.Sizes.{ill-sized}
 use Rattle.trim.specs.declared.Answer.{Answer}

@@ -5,26 +5,23 @@ use mathlib.Core.Bool.{cond}
 use mathlib.Core.Logic.{_⊎_}
 use mathlib.Core.List.{List}
 use lib.ListN.{length, getD}
+use lib.Dec.{eqb}
 use Rattle.graph.specs.Limits.{wordsOf, mostVertices, mostEdges, numbersNeeded}
 use Rattle.graph.specs.Graph.{Graph, Valid, edges}
 use Rattle.graph.specs.Numbers.{mark}
 use Rattle.graph.specs.Search.{core}
 use Rattle.graph.specs.Sets.{bit, members}
-use Rattle.graph.specs.Memory.{Framed}
-use Rattle.sets.specs.Changes.{Added}
-use Rattle.paint.specs.Colours.{col}
-use Rattle.trim.specs.Chain.{ord, nxt}
-use Rattle.trim.specs.Trim.{hued}
+use Rattle.memory.specs.Decomposer.{col, ord, nxt, chainsAt}
+use Rattle.prune.specs.Trim.{hued}
 
 pub record ColourAsk (n b : ℕ) (part w : List ℕ) : Type 0 where
   pub small : n ≤ mostVertices
   pub room : b + n ≤ length w
   pub words : length part ≡ wordsOf n
 
--- the first i vertices are coloured: n in the part, n + 1 outside
-pub record Coloured (i n b : ℕ) (part w w' : List ℕ) : Type 0 where
-  pub colours : (v : ℕ) → v < i → col b w' v ≡ n + 1 - bit part v
-  pub frame : Framed b (b + n) w w'
+-- the colours of the vertices: n in the part, n + 1 outside
+abbrev pub hue : ℕ → List ℕ → ℕ → ℕ
+hue n part v = n + 1 - bit part v
 
 abbrev pub Nearer : ℕ → ℕ → ℕ → ℕ → ℕ → Type 0
 Nearer x q i y r = ((x ≡ q) × (r ≡ i)) ⊎ ((x ≡ q → ⊥) × (r ≡ y))
@@ -45,7 +42,7 @@ pub record Strung (n b q i h : ℕ) (w w' : List ℕ) : Type 0 where
   pub first : From n (col b w) q i h
   pub order : (j : ℕ) → i ≤ j → j < n → ord n b w' j ≡ j
   pub next : (j : ℕ) → i ≤ j → j < n → From n (col b w) q (j + 1) (nxt n b w' j)
-  pub low : (j : ℕ) → j < b + 2 * n → getD w' j 0 ≡ getD w j 0
+  pub low : (j : ℕ) → j < chainsAt n b → getD w' j 0 ≡ getD w j 0
   pub high : (j : ℕ) → b + 10 * n + 2 ≤ j → getD w' j 0 ≡ getD w j 0
   pub long : length w' ≡ length w
 
@@ -53,8 +50,11 @@ pub record KeepAsk (b v : ℕ) (w r : List ℕ) : Type 0 where
   pub room : b + v < length w
   pub words : v < length r * 64
 
-abbrev pub Kept : ℕ → ℕ → ℕ → List ℕ → List ℕ → List ℕ → Type 0
-Kept b v q w r r' = ((col b w v ≡ q) × Added v r r') ⊎ ((col b w v ≡ q → ⊥) × (r' ≡ r))
+-- v, which was not in the set, is in it if it has the colour q; no other bit has changed
+pub record Kept (b v q : ℕ) (w r r' : List ℕ) : Type 0 where
+  pub long : length r' ≡ length r
+  pub here : bit r v ≡ 0 → bit r' v ≡ cond (eqb (col b w v) q) 1 0
+  pub else : (u : ℕ) → (u ≡ v → ⊥) → bit r' u ≡ bit r u
 
 pub record CollectAsk (n b : ℕ) (w r : List ℕ) : Type 0 where
   pub small : n ≤ mostVertices

@@ -2,13 +2,10 @@
 ghost use mathlib.Core.Path.{_≡_};
 ghost use Rattle.trim.specs.Promise.{trimRefusal, Promise};
 
-pub mod cursor;
-pub mod prune;
 mod stages;
 
 use graph::limits;
 use graph::table;
-use index::memory;
 
 // What trimming answers: the number of vertices left, or the number by which it refuses.
 pub enum Answer {

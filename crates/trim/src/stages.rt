@@ -1,14 +1,15 @@
-// A set becomes a colour and a chain, the part is trimmed, and what has kept the colour becomes a set.
+// A set becomes a colour and a chain of places, the part is trimmed, and what has kept the colour becomes a set.
 ghost use Rattle.graph.specs.Graph.{graph};
-ghost use Rattle.trim.specs.Stages.{ColourAsk, Coloured, Nearer, StringAsk, Strung, KeepAsk, Kept, CollectAsk, Collected, RunAsk, Ran};
-use crate::prune;
+ghost use Rattle.paint.specs.Colours.{Coloured};
+ghost use Rattle.trim.specs.Stages.{ColourAsk, hue, Nearer, StringAsk, Strung, KeepAsk, Kept, CollectAsk, Collected, RunAsk, Ran};
 use index::build;
-use index::memory;
+use memory::decomposer::CHAINS;
+use memory::decomposer::ORDER;
 
 // Each vertex is coloured n if it is in the part, n + 1 if not; the colours stand in w from b on.
 fn colour(n: usize, part: &[u64], w: &mut [u32], b: usize)
     requires { ⌜ ColourAsk n b (now part) (now w) ⌝ }
-    ensures { λ _. ⌜ Coloured n n b (now (part .entry)) (now (w .entry)) (now (w .exit)) ⌝ }
+    ensures { λ _. ⌜ Coloured n b (hue n (now (part .entry))) (now (w .entry)) (now (w .exit)) ⌝ }
 {
     let mut v = 0;
     while v < n {
@@ -36,8 +37,8 @@ fn string(n: usize, w: &mut [u32], b: usize, q: u32) -> usize
     let mut i = n;
     while 0 < i {
         i -= 1;
-        w[b + 9 * n + 2 + i] = i as u32;
-        w[b + 2 * n + i] = y as u32;
+        w[b + ORDER * n + 2 + i] = i as u32;
+        w[b + CHAINS * n + i] = y as u32;
         y = nearer(w[b + i], q, i, y);
     }
     y
@@ -80,7 +81,7 @@ pub fn run(
 {
     let b = 2 * (n + 1 + sources.len());
     let q = n as u32;
-    build::both(sources, targets, n, w);
+    build::both(n, sources, targets, w);
     colour(n, part, w, b);
     let h = string(n, w, b, q);
     prune::prune(n, sources.len(), w, b, h, q);

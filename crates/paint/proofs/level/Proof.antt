@@ -1,7 +1,8 @@
-use mathlib.Core.Path.{_≡_, subst}
-use Prim.Native.Nat.{ℕ, _≤_, _-_}
+use mathlib.Core.Path.{_≡_}
+use Prim.Native.Nat.{_≤_, _-_}
 use native.Mathlib.Omega.{arith}
-use Rattle.graph.specs.Arrows.{on, Every}
+use borrow.Author.Needs.{needs}
+use Rattle.graph.specs.Arrows.{on, Some, Every}
 use Rattle.paint.specs.Colours.{paint}
 use Rattle.paint.specs.Paint.{LevelAsk, Levelled}
 use Rattle.paint.proofs.Levels.{Turn, level-none, turn, turn-ask, turn-step}
@@ -9,95 +10,40 @@ use Rattle.paint.proofs.level.Statement.{statement}
 use Rattle.paint.proofs.level.Tie as tie
 
 abbrev Inv-loop : tie.InvT-loop
-Inv-loop n w₀ ix b a a2 c c2 h k eb q₀ edges₀ i₀ w q edges i = (h ≤ i) × (i ≤ k) × Every n (λ g. LevelAsk g (paint a a2 c c2) ix b h w₀ k → Levelled g (paint a a2 c c2) b h i w₀ k w q edges)
+Inv-loop n w₀ ix b a a2 c c2 h k eb q₀ edges₀ i₀ w q edges i = (h ≤ i) × (i ≤ k)
+    × Some n (λ g. LevelAsk g (paint a a2 c c2) ix b h w₀ k × Levelled g (paint a a2 c c2) b h i w₀ k w q edges)
+    × Every n (λ g. LevelAsk g (paint a a2 c c2) ix b h w₀ k → Levelled g (paint a a2 c c2) b h i w₀ k w q edges)
 
 abbrev μ-loop : tie.MeasureT-loop
 μ-loop n w₀ ix b a a2 c c2 h k eb q₀ edges₀ i₀ w q edges i = k - i
 
--- what the turn reads
-at : (c : tie.In-loop Inv-loop μ-loop) → (let s = c .before .before .before in let l = c .before .loop in Turn (on (s .args .n) (s .pre .0)) (s .args .ix) (s .args .b) (l .w) (l .i) (l .q) (l .edges))
-at c = let s = c .before .before .before .pre in turn (s .1) (c .before .loop .inv .2 (s .0) (s .1)) (c .before .loop .inv .0) (c .loop-test .taken)
+-- what a turn reads
+at : (c : tie.In-loop Inv-loop μ-loop) → (let s = c .before .before .before .args in let l = c .before .loop in Turn (on (s .n) (l .inv .2 .0)) (s .ix) (s .b) (l .w) (l .i) (l .edges))
+at c = let (l, _, (g, (a, z)), f) = c .before .loop .inv in turn a z l (c .loop-test .taken)
 
-add-eb : tie.Need-add-eb Inv-loop μ-loop
-add-eb c = omega (arith, c .before .pre .1 .laid .below, c .before .pre .1 .ready .fits)
-
-add-eb-2 : tie.Need-add-eb-2 Inv-loop μ-loop
-add-eb-2 c = omega (arith, c .before .pre .1 .laid .below, c .before .pre .1 .ready .fits)
+-- the beginning of a turn, seen from the call
+abbrev begin : tie.After-scan-arg Inv-loop μ-loop → tie.In-loop Inv-loop μ-loop
+begin c = c .before .before .before .before
 
 loop-holds : tie.Need-loop-holds Inv-loop μ-loop
-loop-holds c = (omega arith, c .before .pre .1 .order, λ g q. level-none q)
-
-add-u : tie.Need-add-u Inv-loop μ-loop
-add-u c = omega (arith, at (c), c .loop-test .taken)
-
-add-u-2 : tie.Need-add-u-2 Inv-loop μ-loop
-add-u-2 c = omega (arith, at (c), c .loop-test .taken)
-
-mul-u : tie.Need-mul-u Inv-loop μ-loop
-mul-u c = omega (arith, at (c), c .loop-test .taken)
-
-slice-read-u : tie.Need-slice-read-u Inv-loop μ-loop
-slice-read-u c = omega (arith, at (c .before), c .before .loop-test .taken)
-
-cast-u : tie.Need-cast-u Inv-loop μ-loop
-cast-u c = omega (arith, at (c .before), c .before .loop-test .taken)
-
-add-s : tie.Need-add-s Inv-loop μ-loop
-add-s c = omega (arith, at (c .before), c .before .loop-test .taken)
-
-mul-s : tie.Need-mul-s Inv-loop μ-loop
-mul-s c = omega (arith, at (c .before), c .before .loop-test .taken)
-
-slice-read-s : tie.Need-slice-read-s Inv-loop μ-loop
-slice-read-s c = omega (arith, at (c .before .before), c .before .before .loop-test .taken)
-
-cast-s : tie.Need-cast-s Inv-loop μ-loop
-cast-s c = omega (arith, at (c .before .before), c .before .before .loop-test .taken)
-
-add-t : tie.Need-add-t Inv-loop μ-loop
-add-t c = omega (arith, at (c .before .before), c .before .before .loop-test .taken)
-
-add-t-2 : tie.Need-add-t-2 Inv-loop μ-loop
-add-t-2 c = omega (arith, at (c .before .before), c .before .before .loop-test .taken)
-
-mul-t : tie.Need-mul-t Inv-loop μ-loop
-mul-t c = omega (arith, at (c .before .before), c .before .before .loop-test .taken)
-
-slice-read-t : tie.Need-slice-read-t Inv-loop μ-loop
-slice-read-t c = omega (arith, at (c .before .before .before), c .before .before .before .loop-test .taken)
-
-cast-t : tie.Need-cast-t Inv-loop μ-loop
-cast-t c = omega (arith, at (c .before .before .before), c .before .before .before .loop-test .taken)
+loop-holds c = let (g, a) = c .before .pre in (omega arith, a .order, (g, (a, level-none a)), λ g a. level-none a)
 
 scan-requires : tie.Need-scan-requires Inv-loop μ-loop
-scan-requires c κs = let d = c .before .before .before .before in
-    let s = d .before .before .before .pre in
-    turn-ask (s .1) (d .before .loop .inv .2 (s .0) (s .1)) (d .before .loop .inv .0) (d .loop-test .taken)
-
-sub-edges : tie.Need-sub-edges Inv-loop μ-loop
-sub-edges c = omega (arith, at (c .before .before .before .before .before .before .before), c .before .before .before .before .before .before .before .loop-test .taken)
-
-add-edges : tie.Need-add-edges Inv-loop μ-loop
-add-edges c = omega (arith, at (c .before .before .before .before .before .before .before), c .before .before .before .before .before .before .before .loop-test .taken)
-
-add-i : tie.Need-add-i Inv-loop μ-loop
-add-i c = omega (arith, at (c .before .before .before .before .before .before .before), c .before .before .before .before .before .before .before .loop-test .taken)
-
-loop-less : tie.Need-loop-less Inv-loop μ-loop
-loop-less c = omega (arith, at (c .before .before .before .before .before .before .before), c .before .before .before .before .before .before .before .loop-test .taken)
+scan-requires c κs = let (l, _, (g, (a, z)), f) = begin c .before .loop .inv in turn-ask a z l (begin c .loop-test .taken)
 
 loop-again : tie.Need-loop-again Inv-loop μ-loop
-loop-again c = let d = c .before .before .before .before .before .before .before in
-    (omega arith, omega arith, λ g q. turn-step q (d .before .loop .inv .2 g q) (d .before .loop .inv .0) (d .loop-test .taken) (c .before .before .scan .ensures))
-
-same-length : tie.Need-same-length Inv-loop μ-loop
-same-length c = let s = c .before .before .before .pre in c .before .loop .inv .2 (s .0) (s .1) .grew .kept .long
+loop-again c =
+    let at-arg = c .before .before .before in
+    let (l, _, (g, (a, z)), f) = begin at-arg .before .loop .inv in
+    let h = begin at-arg .loop-test .taken in
+    let y = c .before .before .scan .ensures in
+    (omega arith, omega arith, (g, (a, turn-step a z l h y)), λ g a. turn-step a (f g a) l h y)
 
 returns : tie.Need-returns Inv-loop μ-loop
-returns c = let s = c .before .before .before in
+returns c =
     let l = c .before .loop in
-    let e : l .i ≡ s .args .k = omega arith in
-    λ g q. subst (λ (y : ℕ). Levelled (on (s .args .n) g) (paint (s .args .a) (s .args .a2) (s .args .c) (s .args .c2)) (s .args .b) (s .args .h) y (s .args .w .now) (s .args .k) (l .w) (l .q) (l .edges)) e (l .inv .2 g q)
+    let e : l .i ≡ c .before .before .before .args .k = omega arith in
+    λ g a. rw e at (l .inv .3 g a)
 
 pub level-spec : {M : Type 1} → statement M
 level-spec =
@@ -105,28 +51,28 @@ level-spec =
     (tie.spec
     Inv-loop
     μ-loop
-    add-eb
-    add-eb-2
+    (λ c. search needs)
+    (λ c. search needs)
     loop-holds
-    add-u
-    add-u-2
-    mul-u
-    slice-read-u
-    cast-u
-    add-s
-    mul-s
-    slice-read-s
-    cast-s
-    add-t
-    add-t-2
-    mul-t
-    slice-read-t
-    cast-t
+    (λ c. search needs)
+    (λ c. search needs)
+    (λ c. search needs)
+    (λ c. omega (arith, at (c .before)))
+    (λ c. omega (arith, at (c .before)))
+    (λ c. omega (arith, at (c .before)))
+    (λ c. omega (arith, at (c .before)))
+    (λ c. omega (arith, at (c .before .before)))
+    (λ c. omega (arith, at (c .before .before)))
+    (λ c. omega (arith, at (c .before .before)))
+    (λ c. omega (arith, at (c .before .before)))
+    (λ c. omega (arith, at (c .before .before)))
+    (λ c. omega (arith, at (c .before .before .before)))
+    (λ c. omega (arith, at (c .before .before .before)))
     scan-requires
-    sub-edges
-    add-edges
-    add-i
-    loop-less
+    (λ c. omega (arith, at (begin (c .before .before .before))))
+    (λ c. omega (arith, at (begin (c .before .before .before))))
+    (λ c. search needs)
+    (λ c. search needs)
     loop-again
-    same-length
+    (λ c. search needs)
     returns)

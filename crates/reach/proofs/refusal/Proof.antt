@@ -8,18 +8,16 @@ use borrow.Author.Needs.{needs}
 use Rattle.reach.proofs.refusal.Statement.{statement}
 use Rattle.reach.proofs.refusal.Tie as tie
 
-pass : (c : tie.Else1) → tableRefusal (c .before .before .before .before .before .before .before .before .before .args .n) (c .before .before .before .before .before .before .before .before .before .args .sources .now) (c .before .before .before .before .before .before .before .before .before .args .targets .now) ≡ 0
-pass c = sym (c .before .check .ensures) ∙ c .if1 .left
+-- the beginning, seen from where the table has passed
+abbrev start : tie.Else1 → tie.Start
+start c = c .before .before .before .before .before .before .before .before .before
 
-check-requires : tie.Need-check-requires
-check-requires c κs = search needs
+pass : (c : tie.Else1) → (let s = start c .args in tableRefusal (s .n) (s .sources .now) (s .targets .now) ≡ 0)
+pass c = sym (c .before .check .ensures) ∙ c .if1 .left
 
 returns : tie.Need-returns
 unfolding searchRefusal given _or_
 returns c = sym (or-stop _ _ (λ e. c .if1 .taken (c .before .check .ensures ∙ e)) ∙ sym (c .before .check .ensures))
-
-add-size : tie.Need-add-size
-add-size c = omega (arith, table-limits _ _ _ (pass c) .small)
 
 returns-2 : tie.Need-returns-2
 unfolding searchRefusal given _or_
@@ -33,27 +31,28 @@ returns-4 : tie.Need-returns-4
 unfolding searchRefusal given _or_
 returns-4 c = rw (pass (c .before .before .before), eq-eqb _ _ (c .before .before .if2 .left), eq-eqb _ _ (c .before .if3 .left), ne-eqb _ _ (c .if4 .taken))
 
-lacking-requires : tie.Need-lacking-requires
-lacking-requires c κs = table-limits _ _ _ (pass (c .before .before .before))
-
 returns-5 : tie.Need-returns-5
 unfolding searchRefusal given _or_
-returns-5 c = rw (pass (c .before .before .before .before .before), eq-eqb _ _ (c .before .before .before .before .if2 .left), eq-eqb _ _ (c .before .before .before .if3 .left), eq-eqb _ _ (c .before .before .if4 .left), sym (c .before .lacking .ensures) ∙ c .if5 .taken)
+returns-5 c =
+    let d = c .before .before in
+    rw (pass (d .before .before .before), eq-eqb _ _ (d .before .before .if2 .left), eq-eqb _ _ (d .before .if3 .left), eq-eqb _ _ (d .if4 .left), sym (c .before .lacking .ensures) ∙ c .if5 .taken)
 
 returns-6 : tie.Need-returns-6
 unfolding searchRefusal given _or_
-returns-6 c = rw (pass (c .before .before .before .before .before), eq-eqb _ _ (c .before .before .before .before .if2 .left), eq-eqb _ _ (c .before .before .before .if3 .left), eq-eqb _ _ (c .before .before .if4 .left), sym (c .before .lacking .ensures) ∙ c .if5 .left)
+returns-6 c =
+    let d = c .before .before in
+    rw (pass (d .before .before .before), eq-eqb _ _ (d .before .before .if2 .left), eq-eqb _ _ (d .before .if3 .left), eq-eqb _ _ (d .if4 .left), sym (c .before .lacking .ensures) ∙ c .if5 .left)
 
 pub refusal-spec : {M : Type 1} → statement M
 refusal-spec =
     tie.close
     (tie.spec
-    check-requires
+    (λ c κs. search needs)
     returns
-    add-size
+    (λ c. omega (arith, table-limits _ _ _ (pass c) .small))
     returns-2
     returns-3
     returns-4
-    lacking-requires
+    (λ c κs. table-limits _ _ _ (pass (c .before .before .before)))
     returns-5
     returns-6)

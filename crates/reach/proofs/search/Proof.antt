@@ -7,88 +7,70 @@ use borrow.Author.Needs.{needs}
 use Rattle.reach.proofs.search.Statement.{statement}
 use Rattle.reach.proofs.search.Tie as tie
 
+-- the beginning; where the call is not refused; where the index stands; the search's end: each seen from a later place
+abbrev start : tie.Else1 → tie.Start
+start c = c .before .before .before .before .before .before .before .before .before .before .before .before
+
+abbrev passed : tie.After-run → tie.Else1
+passed c = c .before .before .before .before .before .before .before
+
+abbrev indexed : tie.After-run → tie.After-neighbours
+indexed c = c .before .before .before .before .before
+
+abbrev end : tie.After-size-arg → tie.After-run
+end c = c .before .before .before .before .before
+
 -- what was given, and that it is not refused
 abbrev asked : (c : tie.Else1) → Call
 asked c =
-    let s = c .before .before .before .before .before .before .before .before .before .before .before .before in
-    record { n = s .args .n; sources = s .args .sources .now; targets = s .args .targets .now; starts = s .args .starts .now; permitted = s .args .permitted .now; reached = s .args .reached .now; numbers = s .args .numbers .now; words = s .args .words .now }
+    let s = start c .args in
+    record { n = s .n; sources = s .sources .now; targets = s .targets .now; starts = s .starts .now; permitted = s .permitted .now; reached = s .reached .now; numbers = s .numbers .now; words = s .words .now }
 
 pass : (c : tie.Else1) → searchRefusal (asked c) ≡ 0
 pass c = sym (c .before .refusal .ensures) ∙ c .if1 .left
 
 -- what the search found
-ran : (c : tie.After-run) → (let a = c .before .before .before .before .before .before .before in Found (tableOf (asked a) (c .before .before .before .before .before .before .before .before .before .before .before .before .before .before .before .before .before .before .before .args .backward)) (asked a .starts) (asked a .permitted) (c .before .before .before .before .before .neighbours .last .1 .1 .1 .1 .0) (asked a .reached) (c .run .last .1 .1 .1 .1 .0) (c .run .last .1 .1 .1 .1 .1 .0) (c .run .result))
-ran c = run-found (asked (c .before .before .before .before .before .before .before)) (pass (c .before .before .before .before .before .before .before)) (c .before .before .before .before .before .before .before .before .before .before .before .before .before .before .before .before .before .before .before .args .backward) (c .before .before .before .before .before .neighbours .ensures) (c .run .ensures)
-
-refusal-requires : tie.Need-refusal-requires
-refusal-requires c κs = search needs
-
-same-length : tie.Need-same-length
-same-length c = search needs
-
-same-length-2 : tie.Need-same-length-2
-same-length-2 c = search needs
-
-same-length-3 : tie.Need-same-length-3
-same-length-3 c = search needs
-
-returns : tie.Need-returns
-returns c = search needs
-
-neighbours-requires : tie.Need-neighbours-requires
-neighbours-requires c κs = table-ask (asked (c .before)) (pass (c .before))
+ran : (c : tie.After-run) → (let a = asked (passed c) in let (w, (r, _)) = c .run .last .1 .1 .1 .1 in Found (tableOf a (start (passed c) .args .backward)) (a .starts) (a .permitted) (indexed c .neighbours .last .1 .1 .1 .1 .0) (a .reached) w r (c .run .result))
+ran c = run-found (asked (passed c)) (pass (passed c)) (start (passed c) .args .backward) (indexed c .neighbours .ensures) (c .run .ensures)
 
 run-requires : tie.Need-run-requires
 run-requires c κs =
     let at-neighbours = c .before .before .before .before in
     let at-if1 = at-neighbours .before .before in
-    run-ask (asked at-if1) (pass at-if1) (at-if1 .before .before .before .before .before .before .before .before .before .before .before .before .args .backward) (at-neighbours .neighbours .ensures)
+    run-ask (asked at-if1) (pass at-if1) (start at-if1 .args .backward) (at-neighbours .neighbours .ensures)
 
 size-requires : tie.Need-size-requires
 size-requires c κs =
-    let at-run = c .before .before .before .before .before in
-    let a = accepted _ (pass (at-run .before .before .before .before .before .before .before)) in
-    omega (arith, a .reached, a .table .small, ran at-run .long)
+    let a = accepted _ (pass (passed (end c))) in
+    omega (arith, a .reached, a .table .small, ran (end c) .long)
 
 clear-requires : tie.Need-clear-requires
 clear-requires c κs =
-    let at-run = c .before .before .before .before .before .before .before .before in
-    clear-ask _ (pass (at-run .before .before .before .before .before .before .before)) _ (ran at-run .frame .long ∙ at-run .before .before .before .before .before .neighbours .ensures .long)
-
-same-length-4 : tie.Need-same-length-4
-same-length-4 c = ran (c .before .before .before .before .before .before .before .before .before .before .before .before .before) .long
-
-same-length-5 : tie.Need-same-length-5
-same-length-5 c =
-    let at-run = c .before .before .before .before .before .before .before .before .before .before .before .before .before in
-    c .before .before .before .before .clear .ensures .numbers-zero .long ∙ ran at-run .frame .long ∙ at-run .before .before .before .before .before .neighbours .ensures .long
-
-same-length-6 : tie.Need-same-length-6
-same-length-6 c = search needs
+    let at-run = end (c .before .before .before) in
+    clear-ask _ (pass (passed at-run)) _ (ran at-run .frame .long ∙ indexed at-run .neighbours .ensures .long)
 
 returns-2 : tie.Need-returns-2
 returns-2 c =
-    let at-run = c .before .before .before .before .before .before .before .before .before .before .before .before .before in
-    let at-if1 = at-run .before .before .before .before .before .before .before in
-    record {
-      refusal = sym (pass at-if1);
-      gives = finished _ (pass at-if1) _ _ _ _ _ _ _ _ (at-run .before .before .before .before .before .neighbours .ensures) (ran at-run) (c .before .before .before .before .before .before .before .size .ensures) (c .before .before .before .before .clear .ensures);
-    }
+    let at-clear = c .before .before .before .before in
+    let at-size = at-clear .before .before .before in
+    let at-run = end (at-size .before) in
+    let e = pass (passed at-run) in
+    record { refusal = sym e; gives = finished _ e _ (indexed at-run .neighbours .ensures) (ran at-run) (at-size .size .ensures) (at-clear .clear .ensures) }
 
 pub search-spec : {M : Type 1} → statement M
 search-spec =
     tie.close
     (tie.spec
-    refusal-requires
-    same-length
-    same-length-2
-    same-length-3
-    returns
-    neighbours-requires
+    (λ c κs. search needs)
+    (λ c. search needs)
+    (λ c. search needs)
+    (λ c. search needs)
+    (λ c. search needs)
+    (λ c κs. table-ask (asked (c .before)) (pass (c .before)))
     run-requires
     size-requires
     clear-requires
-    same-length-4
-    same-length-5
-    same-length-6
+    (λ c. search needs)
+    (λ c. search needs)
+    (λ c. search needs)
     returns-2)

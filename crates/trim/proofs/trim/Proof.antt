@@ -5,70 +5,49 @@ use borrow.Author.Needs.{needs}
 use Rattle.trim.proofs.trim.Statement.{statement}
 use Rattle.trim.proofs.trim.Tie as tie
 
-refusal-requires : tie.Need-refusal-requires
-refusal-requires c κs = search needs
+-- where the call is not refused, seen from the end of the steps; that place, seen from the measuring
+abbrev passed : tie.After-run → tie.Else1
+passed c = c .before .before .before
 
-same-length : tie.Need-same-length
-same-length c = search needs
-
-same-length-2 : tie.Need-same-length-2
-same-length-2 c = search needs
-
-same-length-3 : tie.Need-same-length-3
-same-length-3 c = search needs
-
-returns : tie.Need-returns
-returns c = search needs
+abbrev ran : tie.After-size-arg → tie.After-run
+ran c = c .before .before .before .before .before
 
 run-requires : tie.Need-run-requires
-run-requires c κs =
-    let at-if1 = c .before .before in
-    run-ask _ (sym (at-if1 .before .refusal .ensures) ∙ at-if1 .if1 .left)
+run-requires c κs = let d = c .before .before in run-ask _ (sym (d .before .refusal .ensures) ∙ d .if1 .left)
 
 size-requires : tie.Need-size-requires
 size-requires c κs =
-    let at-run = c .before .before .before .before .before in
-    let at-if1 = at-run .before .before .before in
-    let a = accepted _ (sym (at-if1 .before .refusal .ensures) ∙ at-if1 .if1 .left) in
-    omega (arith, a .left, a .table .small, at-run .run .ensures .long)
+    let d = passed (ran c) in
+    let a = accepted _ (sym (d .before .refusal .ensures) ∙ d .if1 .left) in
+    omega (arith, a .left, a .table .small, ran c .run .ensures .long)
 
 clear-requires : tie.Need-clear-requires
 clear-requires c κs =
-    let at-run = c .before .before .before .before .before .before .before .before in
-    let at-if1 = at-run .before .before .before in
-    clear-ask _ (sym (at-if1 .before .refusal .ensures) ∙ at-if1 .if1 .left) _ (at-run .run .ensures .numbers)
-
-same-length-4 : tie.Need-same-length-4
-same-length-4 c = search needs
-
-same-length-5 : tie.Need-same-length-5
-same-length-5 c = search needs
-
-same-length-6 : tie.Need-same-length-6
-same-length-6 c = search needs
+    let at-run = ran (c .before .before .before) in
+    let d = passed at-run in
+    clear-ask _ (sym (d .before .refusal .ensures) ∙ d .if1 .left) _ (at-run .run .ensures .numbers)
 
 returns-2 : tie.Need-returns-2
 returns-2 c =
     let at-clear = c .before .before .before .before in
     let at-size = at-clear .before .before .before in
-    let at-run = at-size .before .before .before .before .before .before in
-    let at-if1 = at-run .before .before .before in
-    let e = sym (at-if1 .before .refusal .ensures) ∙ at-if1 .if1 .left in
-    record { refusal = sym (at-if1 .if1 .left) ∙ at-if1 .before .refusal .ensures; gives = finished _ e (at-run .run .ensures) (at-size .size .ensures) (at-clear .clear .ensures) }
+    let at-run = ran (at-size .before) in
+    let e = sym (passed at-run .before .refusal .ensures) ∙ passed at-run .if1 .left in
+    record { refusal = sym e; gives = finished _ e (at-run .run .ensures) (at-size .size .ensures) (at-clear .clear .ensures) }
 
 pub trim-spec : {M : Type 1} → statement M
 trim-spec =
     tie.close
     (tie.spec
-    refusal-requires
-    same-length
-    same-length-2
-    same-length-3
-    returns
+    (λ c κs. search needs)
+    (λ c. search needs)
+    (λ c. search needs)
+    (λ c. search needs)
+    (λ c. search needs)
     run-requires
     size-requires
     clear-requires
-    same-length-4
-    same-length-5
-    same-length-6
+    (λ c. search needs)
+    (λ c. search needs)
+    (λ c. search needs)
     returns-2)

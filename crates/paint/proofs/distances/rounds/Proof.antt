@@ -1,44 +1,34 @@
 use Prim.Native.Nat.{_-_}
-use native.Mathlib.Omega.{arith}
-use Rattle.graph.specs.Arrows.{Every}
+use borrow.Author.Needs.{needs}
+use Rattle.graph.specs.Arrows.{Some, Every}
 use Rattle.paint.specs.Distances.{RoundsAsk, Queued, HasOr}
-use Rattle.paint.proofs.Nearness.{Rounded, rounds-none, rounds-few, rounds-ask, rounds-step, rounds-all}
+use Rattle.paint.proofs.Nearness.{Rounded, rounds-none, rounds-ask, rounds-step, rounds-all}
 use Rattle.paint.proofs.distances.rounds.Statement.{statement}
 use Rattle.paint.proofs.distances.rounds.Tie as tie
 
 abbrev Inv-loop : tie.InvT-loop
-Inv-loop n w₀ ix b a k0 h₀ k₀ d₀ w h k d = Every n (λ g. RoundsAsk g a ix b w₀ k0 → Rounded g a b (HasOr a n b w₀ k0) (Queued n b w₀ k0) w₀ d h w k)
+Inv-loop n w₀ ix b a k0 h₀ k₀ d₀ w h k d = Some n (λ g. RoundsAsk g a ix b w₀ k0 × Rounded g a b (HasOr a n b w₀ k0) (Queued n b w₀ k0) w₀ d h w k)
+    × Every n (λ g. RoundsAsk g a ix b w₀ k0 → Rounded g a b (HasOr a n b w₀ k0) (Queued n b w₀ k0) w₀ d h w k)
 
 abbrev μ-loop : tie.MeasureT-loop
 μ-loop n w₀ ix b a k0 h₀ k₀ d₀ w h k d = n - h
 
 loop-holds : tie.Need-loop-holds Inv-loop μ-loop
-loop-holds c = λ g q. rounds-none q
-
-add-level : tie.Need-add-level Inv-loop μ-loop
-add-level c = let s = c .before .before .before .before .pre in let z = c .before .before .loop .inv (s .0) (s .1) in omega (arith, c .before .loop-test .taken, s .1 .level .ready .small, z .order .0, rounds-few (s .1) z)
-
-add-level-2 : tie.Need-add-level-2 Inv-loop μ-loop
-add-level-2 c = let s = c .before .before .before .before .pre in let z = c .before .before .loop .inv (s .0) (s .1) in omega (arith, c .before .loop-test .taken, s .1 .level .ready .small, z .order .0, rounds-few (s .1) z)
+loop-holds c = let (g, a) = c .before .pre in ((g, (a, rounds-none a)), λ g a. rounds-none a)
 
 level-requires : tie.Need-level-requires Inv-loop μ-loop
-level-requires c κs = let s = c .before .before .before .before .pre in (s .0, rounds-ask (s .1) (c .before .before .loop .inv (s .0) (s .1)) (c .before .loop-test .taken))
-
-add-d : tie.Need-add-d Inv-loop μ-loop
-add-d c = let s = c .before .before .before .before .before .before .before .pre in let z = c .before .before .before .before .before .loop .inv (s .0) (s .1) in omega (arith, c .before .before .before .before .loop-test .taken, s .1 .level .ready .small, z .order .0, rounds-few (s .1) z)
-
-loop-less : tie.Need-loop-less Inv-loop μ-loop
-loop-less c = let s = c .before .before .before .before .before .before .before .pre in let z = c .before .before .before .before .before .loop .inv (s .0) (s .1) in omega (arith, c .before .before .before .before .loop-test .taken, s .1 .level .ready .small, z .order .0, rounds-few (s .1) z)
+level-requires c κs = let ((g, (a, z)), f) = c .before .before .loop .inv in (g, rounds-ask a z (c .before .loop-test .taken))
 
 loop-again : tie.Need-loop-again Inv-loop μ-loop
-loop-again c = let d = c .before .before .before .before in let z = d .before .loop .inv in
-    λ g q. rounds-step q (z g q) (d .loop-test .taken) (c .before .before .level .ensures g (rounds-ask q (z g q) (d .loop-test .taken)))
-
-same-length : tie.Need-same-length Inv-loop μ-loop
-same-length c = let s = c .before .before .before .pre in c .before .loop .inv (s .0) (s .1) .kept .long
+loop-again c =
+    let at-turn = c .before .before .before .before in
+    let ((g, (a, z)), f) = at-turn .before .loop .inv in
+    let h = at-turn .loop-test .taken in
+    let y = c .before .before .level .ensures in
+    ((g, (a, rounds-step a z h (y g (rounds-ask a z h)))), λ g a. let z = f g a in rounds-step a z h (y g (rounds-ask a z h)))
 
 returns : tie.Need-returns Inv-loop μ-loop
-returns c = λ g q. rounds-all q (c .before .loop .inv g q) (c .loop-test .left)
+returns c = λ g a. rounds-all a (c .before .loop .inv .1 g a) (c .loop-test .left)
 
 pub rounds-spec : {M : Type 1} → statement M
 rounds-spec =
@@ -47,11 +37,11 @@ rounds-spec =
     Inv-loop
     μ-loop
     loop-holds
-    add-level
-    add-level-2
+    (λ c. search needs)
+    (λ c. search needs)
     level-requires
-    add-d
-    loop-less
+    (λ c. search needs)
+    (λ c. search needs)
     loop-again
-    same-length
+    (λ c. search needs)
     returns)

@@ -1,37 +1,32 @@
 use Prim.Native.Nat.{_≤_, _-_}
 use native.Mathlib.Omega.{arith}
 use mathlib.Core.Path.{_≡_}
-use Rattle.reach.specs.Steps.{BegunBelow}
+use borrow.Author.Needs.{needs}
+use Rattle.reach.specs.Steps.{BeginAsk, BegunBelow}
 use Rattle.reach.proofs.Starts.{begun-none, begin-one-ask, begun-more}
 use Rattle.reach.proofs.steps.begin.Statement.{statement}
 use Rattle.reach.proofs.steps.begin.Tie as tie
 
 abbrev Inv-loop : tie.InvT-loop
-Inv-loop n r w₀ b x₀ k₀ w x k = (x ≤ n) × BegunBelow x n b r w₀ w k
+Inv-loop n r w₀ b x₀ k₀ w x k = (x ≤ n) × BeginAsk n b r w₀ × BegunBelow x n b r w₀ w k
 
 abbrev μ-loop : tie.MeasureT-loop
 μ-loop n r w₀ b x₀ k₀ w x k = n - x
 
 loop-holds : tie.Need-loop-holds Inv-loop μ-loop
-loop-holds c = (omega arith, begun-none _ _ _ _ (c .before .before .pre))
+loop-holds c = let a = c .before .before .pre in (omega arith, a, begun-none a)
 
 begin-one-requires : tie.Need-begin-one-requires Inv-loop μ-loop
-begin-one-requires c κs = begin-one-ask _ _ _ _ (c .before .before .before .before .before .pre) _ _ _ (c .before .loop-test .taken) (c .before .before .loop .inv .1)
-
-add-x : tie.Need-add-x Inv-loop μ-loop
-add-x c = omega arith
-
-loop-less : tie.Need-loop-less Inv-loop μ-loop
-loop-less c = omega arith
+begin-one-requires c κs = let (_, a, z) = c .before .before .loop .inv in begin-one-ask a (c .before .loop-test .taken) z
 
 loop-again : tie.Need-loop-again Inv-loop μ-loop
-loop-again c = (omega arith, begun-more _ _ _ _ (c .before .before .before .before .before .before .before .before .pre) _ _ _ (c .before .before .before .before .loop-test .taken) (c .before .before .before .before .before .loop .inv .1) _ _ (c .before .before .begin-one .ensures))
-
-same-length : tie.Need-same-length Inv-loop μ-loop
-same-length c = c .before .loop .inv .1 .grew .kept .long
+loop-again c =
+    let at-turn = c .before .before .before .before in
+    let (_, a, z) = at-turn .before .loop .inv in
+    (omega arith, a, begun-more a (at-turn .loop-test .taken) z (c .before .before .begin-one .ensures))
 
 returns : tie.Need-returns Inv-loop μ-loop
-returns c = let e : c .before .loop .x ≡ c .before .before .before .before .args .n = omega arith in rw e at (c .before .loop .inv .1)
+returns c = let e : c .before .loop .x ≡ c .before .before .before .before .args .n = omega arith in rw e at (c .before .loop .inv .2)
 
 pub begin-spec : {M : Type 1} → statement M
 begin-spec =
@@ -41,8 +36,8 @@ begin-spec =
     μ-loop
     loop-holds
     begin-one-requires
-    add-x
-    loop-less
+    (λ c. search needs)
+    (λ c. search needs)
     loop-again
-    same-length
+    (λ c. search needs)
     returns)

@@ -3,25 +3,30 @@ use Rattle.reach.proofs.Between.{chosen}
 use Rattle.reach.proofs.steps.choose.Statement.{statement}
 use Rattle.reach.proofs.steps.choose.Tie as tie
 
-zero-words-requires : tie.Need-zero-words-requires
-zero-words-requires c κs = search needs
+-- each place seen from the next: the beginning, the emptying, the joining, the meeting
+abbrev start : tie.After-zero-words → tie.Start
+start c = c .before .before .before .before .before
 
-join-requires : tie.Need-join-requires
-join-requires c κs = search needs
+abbrev emptied : tie.After-join → tie.After-zero-words
+emptied c = c .before .before .before .before
 
-meet-requires : tie.Need-meet-requires
-meet-requires c κs = search needs
-
-clip-requires : tie.Need-clip-requires
-clip-requires c κs = search needs
-
-same-length : tie.Need-same-length
-same-length c = search needs
+abbrev joined : tie.After-meet → tie.After-join
+joined c = c .before .before .before .before
 
 returns : tie.Need-returns
-returns c = chosen _ _ _ _ _ _ _ _ (c .before .before .before .before .before .before .before .before .before .before .before .before .before .before .before .before .before .before .before .pre) (c .before .before .before .before .before .before .before .before .before .before .before .before .before .before .zero-words .ensures) (c .before .before .before .before .before .before .before .before .before .before .join .ensures) (c .before .before .before .before .before .before .meet .ensures) (c .before .before .clip .ensures)
+returns c =
+    let at-clip = c .before .before in
+    let at-meet = at-clip .before .before .before .before in
+    let j = joined at-meet in
+    chosen (start (emptied j) .pre) (emptied j .zero-words .ensures) (j .join .ensures) (at-meet .meet .ensures) (at-clip .clip .ensures)
 
 pub choose-spec : {M : Type 1} → statement M
 choose-spec =
     tie.close
-    (tie.spec zero-words-requires join-requires meet-requires clip-requires same-length returns)
+    (tie.spec
+    (λ c κs. search needs)
+    (λ c κs. search needs)
+    (λ c κs. search needs)
+    (λ c κs. search needs)
+    (λ c. search needs)
+    returns)

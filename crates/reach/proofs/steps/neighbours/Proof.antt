@@ -4,23 +4,19 @@ use Rattle.reach.proofs.steps.neighbours.Statement.{statement}
 use Rattle.reach.proofs.steps.neighbours.Tie as tie
 
 one-requires : tie.Need-one-requires
-one-requires c κs = back-ask (c .before .before .before .before .before .pre)
-
-same-length : tie.Need-same-length
-same-length c = search needs
+one-requires c κs = let at-if1 = c .before in back-ask (at-if1 .before .before .before .before .pre)
 
 returns : tie.Need-returns
-returns c = rw (c .before .before .before .before .if1 .taken) (back-one (c .before .before .before .before .before .before .before .before .pre) (c .before .before .one .ensures))
+returns c =
+    let at-if1 = c .before .before .before .before in
+    rw (at-if1 .if1 .taken) (back-one (at-if1 .before .before .before .before .pre) (c .before .before .one .ensures))
 
 one-requires-2 : tie.Need-one-requires-2
-one-requires-2 c κs = one-ask (c .before .before .before .before .before .pre)
-
-same-length-2 : tie.Need-same-length-2
-same-length-2 c = search needs
+one-requires-2 c κs = let at-if1 = c .before in one-ask (at-if1 .before .before .before .before .pre)
 
 returns-2 : tie.Need-returns-2
 returns-2 c = rw (c .before .before .before .before .if1 .left) (c .before .before .one2 .ensures)
 
 pub neighbours-spec : {M : Type 1} → statement M
 neighbours-spec =
-    tie.close (tie.spec one-requires same-length returns one-requires-2 same-length-2 returns-2)
+    tie.close (tie.spec one-requires (λ c. search needs) returns one-requires-2 (λ c. search needs) returns-2)

@@ -1,85 +1,69 @@
 use borrow.Author.Needs.{needs}
-use Rattle.graph.specs.Graph.{graph}
+use Rattle.graph.specs.Graph.{Graph, graph}
 use Rattle.graph.specs.Arrows.{arrows}
-use Rattle.trim.proofs.Whole.{both-ask, colour-ask, string-ask, trim-ask, collect-ask, ran}
+use Rattle.trim.proofs.Whole.{both-ask, trim-ask, collect-ask, ran}
 use Rattle.trim.proofs.stages.run.Statement.{statement}
 use Rattle.trim.proofs.stages.run.Tie as tie
 
-add-b : tie.Need-add-b
-add-b c = search needs
+-- each place seen from the next: the beginning, the indexes, the colours, the chain
+abbrev start : tie.After-both-arg → tie.Start
+start c = c .before .before .before .before .before .before
 
-add-b-2 : tie.Need-add-b-2
-add-b-2 c = search needs
+abbrev built : tie.After-colour → tie.After-both
+built c = c .before .before .before .before
 
-mul-b : tie.Need-mul-b
-mul-b c = search needs
+abbrev coloured : tie.After-string → tie.After-colour
+coloured c = c .before .before .before .before
 
-cast-q : tie.Need-cast-q
-cast-q c = search needs
+abbrev strung : tie.After-zero-words → tie.After-string
+strung c = c .before .before .before .before .before .before .before .before
 
-both-requires : tie.Need-both-requires
-both-requires c κs = let s = c .before .before .before .before .before .before in both-ask (s .pre)
+abbrev emptied : tie.After-collect-arg2 → tie.After-zero-words
+emptied c = c .before .before .before .before
 
-colour-requires : tie.Need-colour-requires
-colour-requires c κs = let at-both = c .before .before .before in
-    let s = at-both .before .before .before .before .before .before .before in
-    colour-ask (s .pre) (at-both .both .ensures)
-
-string-requires : tie.Need-string-requires
-string-requires c κs = let at-colour = c .before .before .before in
-    let at-both = at-colour .before .before .before .before in
-    let s = at-both .before .before .before .before .before .before .before in
-    string-ask (s .pre) (at-both .both .ensures) (at-colour .colour .ensures)
+-- the table that was given
+abbrev given : tie.After-string → Graph
+given c = let s = start (built (coloured c) .before) .args in graph (s .n) (s .sources .now) (s .targets .now)
 
 prune-requires : tie.Need-prune-requires
-prune-requires c κs = let at-string = c .before .before .before in
-    let at-colour = at-string .before .before .before .before in
-    let at-both = at-colour .before .before .before .before in
-    let s = at-both .before .before .before .before .before .before .before in
-    (arrows (graph (s .args .n) (s .args .sources .now) (s .args .targets .now)), trim-ask (s .pre) (at-both .both .ensures) (at-colour .colour .ensures) (at-string .string .ensures))
-
-zero-words-requires : tie.Need-zero-words-requires
-zero-words-requires c κs = search needs
+prune-requires c κs =
+    let d = c .before .before .before in
+    let o = built (coloured d) in
+    (arrows (given d), trim-ask (start (o .before) .pre) (o .both .ensures) (coloured d .colour .ensures) (d .string .ensures))
 
 collect-requires : tie.Need-collect-requires
-collect-requires c κs = let at-zero = c .before .before .before .before in
-    let at-prune = at-zero .before .before .before .before in
-    let at-string = at-prune .before .before .before .before in
-    let at-colour = at-string .before .before .before .before in
-    let at-both = at-colour .before .before .before .before in
-    let s = at-both .before .before .before .before .before .before .before in
-    collect-ask (s .pre) (at-both .both .ensures) (at-colour .colour .ensures) (at-string .string .ensures) (at-prune .prune .ensures (arrows (graph (s .args .n) (s .args .sources .now) (s .args .targets .now))) (trim-ask (s .pre) (at-both .both .ensures) (at-colour .colour .ensures) (at-string .string .ensures))) (at-zero .zero-words .ensures)
-
-same-length : tie.Need-same-length
-same-length c = search needs
-
-same-length-2 : tie.Need-same-length-2
-same-length-2 c = search needs
+collect-requires c κs =
+    let z = emptied c in
+    let d = strung z in
+    let a = start (built (coloured d) .before) .pre in
+    let o = built (coloured d) .both .ensures in
+    let y = coloured d .colour .ensures in
+    collect-ask a o y (d .string .ensures) (z .before .before .before .before .prune .ensures (arrows (given d)) (trim-ask a o y (d .string .ensures))) (z .zero-words .ensures)
 
 returns : tie.Need-returns
-returns c = let at-collect = c .before .before in
-    let at-zero = at-collect .before .before .before .before .before in
-    let at-prune = at-zero .before .before .before .before in
-    let at-string = at-prune .before .before .before .before in
-    let at-colour = at-string .before .before .before .before in
-    let at-both = at-colour .before .before .before .before in
-    let s = at-both .before .before .before .before .before .before .before in
-    ran (s .pre) (at-both .both .ensures) (at-colour .colour .ensures) (at-string .string .ensures) (at-prune .prune .ensures (arrows (graph (s .args .n) (s .args .sources .now) (s .args .targets .now))) (trim-ask (s .pre) (at-both .both .ensures) (at-colour .colour .ensures) (at-string .string .ensures))) (at-zero .zero-words .ensures) (at-collect .collect .ensures)
+returns c =
+    let z = emptied (c .before .before .before) in
+    let d = strung z in
+    let a = start (built (coloured d) .before) .pre in
+    let o = built (coloured d) .both .ensures in
+    let y = coloured d .colour .ensures in
+    let t = z .before .before .before .before .prune .ensures (arrows (given d)) (trim-ask a o y (d .string .ensures)) in
+    ran a o y (d .string .ensures) t (z .zero-words .ensures) (c .before .before .collect .ensures)
 
 pub run-spec : {M : Type 1} → statement M
 run-spec =
     tie.close
     (tie.spec
-    add-b
-    add-b-2
-    mul-b
-    cast-q
-    both-requires
-    colour-requires
-    string-requires
+    (λ c. search needs)
+    (λ c. search needs)
+    (λ c. search needs)
+    (λ c. search needs)
+    (λ c κs. both-ask (start c .pre))
+    (λ c κs. search needs)
+    (λ c κs. search needs)
     prune-requires
-    zero-words-requires
+    (λ c κs. search needs)
     collect-requires
-    same-length
-    same-length-2
+    (λ c. search needs)
+    (λ c. search needs)
     returns)

@@ -1,0 +1,4 @@
+pub mod Chain
+pub mod Trim
+pub mod Cursor
+pub mod Prune
