@@ -1,192 +1,196 @@
--- A part divided: trimming, the sweep and the handing out, put together.
-use Prim.Native.Nat.{ℕ, _+_, _*_, _≤_, _<_}
+-- A part divided: what makes it ready, the sweep and the handing out, put together.
+use Prim.Native.Nat.{ℕ, _+_, _≤_, _<_}
 use native.Mathlib.Omega.{arith}
 use native.Mathlib.Decide.{ℕ-discrete}
 use mathlib.Core.Path.{_≡_, refl, sym, ap, _∙_}
 use mathlib.Core.Logic.{_⊎_, inl, inr, ⊎-elim}
 use mathlib.Core.List.{List}
-use lib.Dec.{T, ltb, ltb→lt, lt→ltb}
-use Rattle.graph.specs.Graph.{Graph, IsLabel}
+use lib.Dec.{T, ltb, ltb→lt, lt→ltb, eqb}
+use Rattle.graph.specs.Graph.{Graph}
 use Rattle.graph.specs.Parts.{Alone, Closed}
 use Rattle.graph.specs.Numbers.{many}
-use Rattle.graph.specs.Search.{part, core}
-use Rattle.graph.proofs.Chains.{valid-rev, same-low, same-sym}
-use Rattle.graph.proofs.Counts.{many-mono, many-more}
-use Rattle.graph.proofs.Method.{alone-label}
-use Rattle.paint.specs.Colours.{col, Kept}
-use Rattle.trim.specs.Cursor.{Hued}
-use Rattle.trim.proofs.Core.{gone-alone}
-use Rattle.trim.specs.Trim.{TrimAsk, Trimmed}
-use Rattle.parts.specs.State.{Owned, labelled, rings, ord, Stage}
-use Rattle.parts.specs.Chain.{own, head}
+use Rattle.graph.proofs.Chains.{valid-rev, same-low}
+use Rattle.graph.proofs.Counts.{many-le, many-mono, many-more}
+use Rattle.memory.specs.Decomposer.{col, ord, own, chainsAt, orderAt, Inside}
+use Rattle.memory.proofs.Memory.{touched-more}
+use Rattle.prune.specs.Cursor.{Hued}
+use Rattle.prune.specs.Trim.{Trimmed}
+use Rattle.prune.proofs.Core.{gone-alone}
+use Rattle.split.specs.State.{Owned, labelled, rings, Stage}
+use Rattle.split.proofs.Rings.{rings-none, rings-alone}
+use Rattle.split.proofs.Same.{labels-same, owned-alone, stage-moved}
+use Rattle.sweep.specs.Kind.{KindAsk, KindSwept}
+use Rattle.sweep.proofs.Sweeping.{Course, sweeps-course}
 use Rattle.parts.specs.Share.{Sharing, ShareAsk}
-use Rattle.parts.specs.Divide.{KindAsk, KindSwept, DivideAsk, Recoloured, Division}
-use Rattle.parts.proofs.Splitting.{tables-kept}
-use Rattle.parts.proofs.Rings.{rings-none}
-use Rattle.parts.proofs.Sweeping.{placed-kept, sweeps-kept, sweeps-others, sweeps-ours, sweeps-few, sweeps-many, sweeps-some, sweeps-stage}
-use Rattle.parts.proofs.Same.{labels-same}
+use Rattle.parts.specs.Divide.{MethodAsk, MakeAsk, Made, Recoloured, Division}
 use Rattle.parts.proofs.Handing.{hand-ask, hand-colour, handed}
 
--- TRIMMING
-module _ {g : Graph} {b q top : ℕ} {w w' : List ℕ} {k : ℕ} (s : Stage g b top w) (part-q : g .n ≤ q) (known : q < top) (z : Trimmed g b q w w' k) where
-  closed : Closed g (Hued (g .n) b q w)
-  closed u v e (l, c) = (same-low (s .tables .valid) e l, sym (s .owned .whole u v l e) ∙ c)
+-- what trimming takes from a part is a component alone
+trim-each : {g : Graph} {b q top : ℕ} {w w' : List ℕ} {k : ℕ} → Stage g b top w → g .n ≤ q → Trimmed g b q w w' k
+    → (v : ℕ) → v < g .n → (col b w' v ≡ col b w v) ⊎ ((col b w v ≡ q) × (col b w' v ≡ v) × Alone g v)
+trim-each {g} {b} {q} {w = w} {w'} {k} s part z v l = go (ℕ-discrete (col b w v) q) (ℕ-discrete (col b w' v) q)
+  where
+    closed : Closed g (Hued (g .n) b q w)
+    closed u v e (l, c) = (same-low (s .tables .valid) e l, sym (s .owned .whole u v l e) ∙ c)
 
-  -- what goes is a component alone
-  pub trim-each : (v : ℕ) → v < g .n → (col b w' v ≡ col b w v) ⊎ ((col b w v ≡ q) × (col b w' v ≡ v) × Alone g v)
-  trim-each v l = go (ℕ-discrete (col b w v) q) (ℕ-discrete (col b w' v) q)
-    where
-      go : Dec (col b w v ≡ q) → Dec (col b w' v ≡ q) → (col b w' v ≡ col b w v) ⊎ ((col b w v ≡ q) × (col b w' v ≡ v) × Alone g v)
-      go (no o) d = inl (z .else v l o)
-      go (yes e) (yes y) = inl (y ∙ sym e)
-      go (yes e) (no o) = inr (e, z .goes v l e (λ t. o (z .stays v l t)), gone-alone g b q w w' k part-q closed z v l e o)
+    go : Dec (col b w v ≡ q) → Dec (col b w' v ≡ q) → (col b w' v ≡ col b w v) ⊎ ((col b w v ≡ q) × (col b w' v ≡ v) × Alone g v)
+    go (no o) d = inl (z .else v l o)
+    go (yes e) (yes y) = inl (y ∙ sym e)
+    go (yes e) (no o) = inr (e, z .goes v l e (λ t. o (z .stays v l t)), gone-alone g b q w w' k part closed z v l e o)
 
-  pub trim-owned : Owned g (col b w') top
-  trim-owned = record {
-    whole = λ u v l e. ⊎-elim
-        (λ x. ⊎-elim
-        (λ y. x ∙ s .owned .whole u v l e ∙ sym y)
-        (λ y. ap (col b w') (sym (y .2 u (same-sym e)))) (trim-each v (same-low (s .tables .valid) e l)))
-        (λ x. ap (col b w') (x .2 v e)) (trim-each u l);
-    right = λ v l t. ⊎-elim (λ x. rw x (s .owned .right v l (omega (arith, x, t)))) (λ x. rw (x .1) (alone-label (x .2))) (trim-each v l);
-    below = λ v l. ⊎-elim (λ x. omega (arith, x, s .owned .below v l)) (λ x. omega (arith, x .1)) (trim-each v l);
-  }
+-- COMPONENTS ALONE HAVE LEFT THE PART
+module _ {g : Graph} {b q top : ℕ} {w : List ℕ} (w₁ : List ℕ) (s : Stage g b top w) (part : g .n ≤ q) (known : q < top) (inside : Inside (g .n) b w w₁)
+    (each : (v : ℕ) → v < g .n → (col b w₁ v ≡ col b w v) ⊎ ((col b w v ≡ q) × (col b w₁ v ≡ v) × Alone g v)) where
+  alone-else : (v : ℕ) → v < g .n → (col b w v ≡ q → ⊥) → col b w₁ v ≡ col b w v
+  alone-else v l o = ⊎-elim (λ x. x) (λ x. absurd (o (x .0))) (each v l)
 
-  label-stays : (v : ℕ) → v < g .n → T (ltb (col b w v) (g .n)) → T (ltb (col b w' v) (g .n))
-  label-stays v l t = rw (z .else v l (λ e. omega (arith, e, ltb→lt (col b w v) (g .n) t))) t
+  alone-owned : Owned g (col b w₁) top
+  alone-owned = owned-alone (col b w) (col b w₁) (s .tables .valid) (omega (arith, part, known)) (s .owned) (λ v l. ⊎-elim (λ x. inl x) (λ x. inr (x .1, x .2)) (each v l))
 
-  pub trim-labels : labelled g b w ≤ labelled g b w'
-  trim-labels = many-mono (λ v. ltb (col b w v) (g .n)) (λ v. ltb (col b w' v) (g .n)) (g .n) label-stays
+  label-stays : (v : ℕ) → v < g .n → T (ltb (col b w v) (g .n)) → T (ltb (col b w₁ v) (g .n))
+  label-stays v l t = rw (alone-else v l (λ e. omega (arith, e, part, ltb→lt (col b w v) (g .n) t))) t
+
+  alone-labels : labelled g b w ≤ labelled g b w₁
+  alone-labels = many-mono (λ v. ltb (col b w v) (g .n)) (λ v. ltb (col b w₁ v) (g .n)) (g .n) label-stays
 
   -- a vertex that has gone has its label now
-  pub trim-more : (v : ℕ) → v < g .n → col b w v ≡ q → (col b w' v ≡ q → ⊥) → labelled g b w < labelled g b w'
-  trim-more v l e o = many-more (λ v. ltb (col b w v) (g .n)) (λ v. ltb (col b w' v) (g .n)) (g .n) label-stays v l
-      (λ t. omega (arith, e, ltb→lt (col b w v) (g .n) t))
-      (lt→ltb (col b w' v) (g .n) (⊎-elim (λ x. absurd (o (x ∙ e))) (λ x. omega (arith, x .1)) (trim-each v l)))
+  alone-more : (v : ℕ) → v < g .n → col b w v ≡ q → (col b w₁ v ≡ q → ⊥) → labelled g b w < labelled g b w₁
+  alone-more v l e o = many-more (λ v. ltb (col b w v) (g .n)) (λ v. ltb (col b w₁ v) (g .n)) (g .n) label-stays v l
+      (λ t. omega (arith, e, part, ltb→lt (col b w v) (g .n) t))
+      (lt→ltb (col b w₁ v) (g .n) (⊎-elim (λ x. absurd (o (x ∙ e))) (λ x. omega (arith, x .1)) (each v l)))
 
-  pub trim-rings : rings g b w' ≤ rings g b w
-  trim-rings = rings-none (g .n) (col b w) (col b w') (λ v l t. ⊎-elim (λ x. inl x) (λ x. inr (x .1, alone v l (x .2))) (trim-each v l))
-    where
-      -- a vertex alone shares its label with no other
-      alone : (v : ℕ) → v < g .n → Alone g v → (u : ℕ) → u < g .n → col b w' u ≡ v → u ≡ v
-      alone v l a u h e =
-          let i : IsLabel g u (col b w' u) = trim-owned .right u h (omega (arith, e)) in
-          sym (a u (same-sym (rw e at (i .member))))
+  alone-rings : rings g b w₁ ≤ rings g b w
+  alone-rings = rings-alone (col b w) (col b w₁) alone-owned (λ v l t. ⊎-elim (λ x. inl x) (λ x. inr (x .1, x .2)) (each v l))
 
-  ord-same : (i : ℕ) → ord (g .n) b w' i ≡ ord (g .n) b w i
-  ord-same i = z .aside .high (b + 9 * g .n + 2 + i) (omega arith)
+  alone-stage : Stage g b top w₁
+  alone-stage = stage-moved w₁ s (inside .low) (inside .high) (inside .long) alone-owned (omega (arith, s .room, alone-labels))
 
-  pub trim-stage : Stage g b top w'
-  trim-stage = record {
-    tables = tables-kept g b w w' (z .aside .low) (s .tables);
-    placed = placed-kept (g .n) b w w' ord-same (s .placed);
-    owned = trim-owned;
-    room = omega (arith, s .room, trim-labels);
-    long = omega (arith, s .long, z .aside .long);
-  }
-
-  pub trim-was : (i : ℕ) → i < g .n → own (g .n) b w' i ≡ q → own (g .n) b w i ≡ q
-  trim-was i l e = elim (ℕ-discrete (own (g .n) b w i) q) as (λ _. own (g .n) b w i ≡ q) [
+  alone-was : (i : ℕ) → i < g .n → own (g .n) b w₁ i ≡ q → own (g .n) b w i ≡ q
+  alone-was i l e = elim (ℕ-discrete (own (g .n) b w i) q) as (λ _. own (g .n) b w i ≡ q) [
     | yes y ↦ y
-    | no y ↦ absurd (y (sym (z .else (ord (g .n) b w i) (s .placed .low i l) y) ∙ ap (col b w') (sym (ord-same i)) ∙ e))
+    | no y ↦ absurd (y (sym (alone-else (ord (g .n) b w i) (s .placed .low i l) y) ∙ ap (col b w₁) (sym (inside .high (orderAt (g .n) b + i) (omega arith))) ∙ e))
   ]
 
 -- THE WHOLE
-module _ {g : Graph} {b h top : ℕ} {w ws : List ℕ} (a : DivideAsk g b h top w ws) where
+module _ {g : Graph} {slicing b h top : ℕ} {w ws : List ℕ} (a : MethodAsk g slicing b h top w ws) where
   abbrev q : ℕ
   q = own (g .n) b w h
 
+  st : Stage g b top w
+  st = a .ask .stage
+
+  part : g .n ≤ own (g .n) b w h
+  part = a .ask .first .part
+
   low-h : ord (g .n) b w h < g .n
-  low-h = a .stage .placed .low h (a .first .low)
+  low-h = st .placed .low h (a .ask .first .low)
 
   known : own (g .n) b w h < top
-  known = a .stage .owned .below (ord (g .n) b w h) low-h
+  known = st .owned .below (ord (g .n) b w h) low-h
 
-  pub divide-trim : TrimAsk g b h (own (g .n) b w h) w
-  divide-trim = record {
-    fwd = record { valid = a .stage .tables .valid; few = a .stage .tables .few; below = omega (arith, a .stage .tables .below); index = a .stage .tables .fwd };
-    bwd = record {
-      valid = valid-rev (a .stage .tables .valid);
-      few = a .stage .tables .few;
-      below = omega (arith, a .stage .tables .below);
-      index = a .stage .tables .bwd;
+  pub divide-make : MakeAsk g b h (own (g .n) b w h) w
+  divide-make = record {
+    trim = record {
+      fwd = record { valid = st .tables .valid; few = st .tables .few; below = omega (arith, st .tables .below); index = st .tables .fwd };
+      bwd = record { valid = valid-rev (st .tables .valid); few = st .tables .few; below = omega (arith, st .tables .below); index = st .tables .bwd };
+      small = st .tables .small;
+      long = st .long;
+      part = part;
+      chain = record {
+        placed = record { low = st .placed .low; all = st .placed .all };
+        head = record { most = omega (arith, a .ask .first .low); here = λ t. refl; none = a .ask .first .none };
+        next = a .ask .chain;
+      };
     };
-    small = a .stage .tables .small;
-    long = a .stage .long;
-    part = a .first .part;
-    chain = record {
-      placed = record { low = a .stage .placed .low; all = a .stage .placed .all };
-      head = record { most = omega (arith, a .first .low); here = λ t. refl; none = a .first .none };
-      next = a .chain;
-    };
+    prepare = record { small = st .tables .small; below = st .tables .below; long = st .long };
   }
 
-  module _ {w₁ : List ℕ} {t : ℕ} (z : Trimmed g b (own (g .n) b w h) w w₁ t) where
-    pub divide-sweep : KindAsk g b h (own (g .n) b w h) top w₁ ws
+  module _ {w₁ : List ℕ} (z : Made g slicing b (own (g .n) b w h) w w₁) where
+    each₁ : (v : ℕ) → v < g .n → (col b w₁ v ≡ col b w v) ⊎ ((col b w v ≡ q) × (col b w₁ v ≡ v) × Alone g v)
+    each₁ v l = ⊎-elim (λ y. trim-each st part (y .1 .1) v l) (λ y. inl (y .1 .low (b + v) (omega arith))) z
+
+    inside₁ : Inside (g .n) b w w₁
+    inside₁ = ⊎-elim
+        (λ y. let i = y .1 .1 .aside in record { low = i .low; mid = i .mid; high = λ j l. i .high j (omega arith); long = i .long })
+        (λ y. let i = y .1 in record { low = λ j l. i .low j (omega arith); mid = λ j l m. i .low j m; high = λ j l. i .high j (omega arith); long = i .long }) z
+
+    pub divide-sweep : KindAsk g slicing b h (own (g .n) b w h) top w₁ ws
     divide-sweep = record {
-      stage = trim-stage (a .stage) (a .first .part) known z;
-      runs = record {
-        past = own (g .n) b w;
-        first = a .first;
-        live = refl;
-        next = λ i l e. rw (z .aside .mid (b + 2 * g .n + i) (omega arith) (omega arith)) (a .chain i l e);
-        still = trim-was (a .stage) (a .first .part) known z;
+      sweep = record {
+        ready = record {
+          stage = alone-stage w₁ st part known inside₁ each₁;
+          part = part;
+          known = known;
+          uncut = λ o. ⊎-elim (λ y. absurd (y .0 o)) (λ y. record {
+            room = omega (arith, a .only o, many-le (λ v. eqb (col b w₁ v) q) (g .n));
+            untouched = λ v l c. (y .1 .marks v l, y .1 .cursors v l ∙ st .tables .bwd .offs v (omega arith));
+          }) z;
+        };
+        runs = record {
+          past = own (g .n) b w;
+          first = a .ask .first;
+          live = refl;
+          next = λ i l e. rw (inside₁ .mid (chainsAt (g .n) b + i) (omega arith) (omega arith)) (a .ask .chain i l e);
+          still = alone-was w₁ st part known inside₁ each₁;
+        };
       };
-      known = known;
-      blank = a .blank;
+      blank = a .ask .blank;
     }
 
-    module _ {kind state : ℕ} {w₂ ws₂ : List ℕ} {state' k top' : ℕ} (y : KindSwept g b (own (g .n) b w h) kind state top w₁ ws w₂ ws₂ state' k top') where
-      kept : Kept (g .n) b w₁ w₂
-      kept = sweeps-kept (a .first .part) known (y .sweeps)
+    module _ {kind state : ℕ} {w₂ ws₂ : List ℕ} {state' k top' : ℕ} (y : KindSwept g slicing b (own (g .n) b w h) kind state top w₁ ws w₂ ws₂ state' k top') where
+      course : Course g slicing b q top w₁ (y .pivots) top' w₂
+      course = sweeps-course (divide-sweep .sweep .ready) (y .sweeps)
 
-      fewer : labelled g b w + y .pivots ≤ labelled g b w₂
-      fewer = omega (arith, trim-labels (a .stage) (a .first .part) known z, sweeps-few (a .first .part) known (y .sweeps))
+      labels₁ : labelled g b w ≤ labelled g b w₁
+      labels₁ = alone-labels w₁ st part known inside₁ each₁
 
-      -- the first vertex was trimmed, or it was taken by a pivot
-      some₂ : labelled g b w < labelled g b w₂
-      some₂ = elim (ℕ-discrete (col b w₁ (ord (g .n) b w h)) q) as (λ _. labelled g b w < labelled g b w₂) [
-        | yes c ↦ omega (arith, fewer, sweeps-some (a .first .part) known (y .sweeps) (ord (g .n) b w h) c (y .gone (ord (g .n) b w h) low-h))
-        | no c ↦ omega (arith, trim-more (a .stage) (a .first .part) known z (ord (g .n) b w h) low-h refl c, sweeps-few (a .first .part) known (y .sweeps))
+      -- the first vertex has gone alone, or it was taken by a pivot
+      some₂ : (slicing ≡ 1 → ⊥) → labelled g b w < labelled g b w₂
+      some₂ o = elim (ℕ-discrete (col b w₁ (ord (g .n) b w h)) q) as (λ _. labelled g b w < labelled g b w₂) [
+        | yes c ↦ omega (arith, labels₁, course .few o, course .some (ord (g .n) b w h) c (y .gone (ord (g .n) b w h) low-h))
+        | no c ↦ omega (arith, alone-more w₁ st part known inside₁ each₁ (ord (g .n) b w h) low-h refl c, course .few o)
       ]
 
-      pub divide-recoloured : Recoloured g b h top w w₂ top'
-      divide-recoloured = record {
-        stage = rw (y .colours) (sweeps-stage (a .first .part) known (trim-stage (a .stage) (a .first .part) known z) (y .sweeps));
-        more = omega (arith, y .colours);
-        others = λ v l o. let e = z .else v l o in sweeps-others (a .first .part) known (y .sweeps) v l (λ c. o (sym e ∙ c)) ∙ e;
+      recoloured : Recoloured g b h top w w₂ top'
+      recoloured = record {
+        stage = course .ready .stage;
+        more = course .least;
+        others = λ v l o. let e = alone-else w₁ st part known inside₁ each₁ v l o in course .others v l (λ c. o (sym e ∙ c)) ∙ e;
         ours = λ v l e. elim (ℕ-discrete (col b w₁ v) q) as (λ _. (col b w₂ v < g .n) ⊎ (top ≤ col b w₂ v)) [
-          | yes c ↦ ⊎-elim (λ m. absurd (y .gone v l m)) (λ m. m) (sweeps-ours (a .first .part) known (y .sweeps) v l c)
+          | yes c ↦ ⊎-elim (λ m. absurd (y .gone v l m)) (λ m. m) (course .ours v l c)
           | no c ↦
-              let f : col b w₁ v < g .n = ⊎-elim (λ x. absurd (c (x ∙ e))) (λ x. omega (arith, x .1)) (trim-each (a .stage) (a .first .part) known z v l) in
-              inl (omega (arith, f, sweeps-others (a .first .part) known (y .sweeps) v l c))
+              let f : col b w₁ v < g .n = ⊎-elim (λ x. absurd (c (x ∙ e))) (λ x. omega (arith, x .1)) (each₁ v l) in
+              inl (omega (arith, f, course .others v l c))
         ];
-        low = λ j l. kept .low j l ∙ z .aside .low j l;
-        chains = λ j l m. kept .high j (omega arith) ∙ z .aside .mid j l m;
-        high = λ j l. kept .high j (omega arith) ∙ z .aside .high j (omega arith);
-        long = kept .long ∙ z .aside .long;
+        inside = touched-more inside₁ (course .inside);
       }
 
       pub divide-share : ShareAsk (g .n) b top top' h w₂
-      divide-share = hand-ask a divide-recoloured
+      divide-share = hand-ask (a .ask) recoloured
 
       module _ {w₃ : List ℕ} {children : ℕ} (x : Sharing (g .n) b top top' w₂ (g .n) w₃ children) where
         c₃ : (v : ℕ) → v < g .n → col b w₃ v ≡ col b w₂ v
-        c₃ = hand-colour a divide-recoloured x
+        c₃ = hand-colour (a .ask) recoloured x
 
-        pub divide-all : Division g b kind state h top w ws w₃ ws₂ state' k top' children
+        rings₃ : rings g b w₃ ≤ rings g b w₂
+        rings₃ = rings-none (g .n) (col b w₂) (col b w₃) (λ v l m. inl (c₃ v l))
+
+        rings₁ : rings g b w₁ ≤ rings g b w
+        rings₁ = alone-rings w₁ st part known inside₁ each₁
+
+        pub divide-all : Division g slicing b kind state h top w ws w₃ ws₂ state' k top' children
         divide-all = record {
-          handed = handed a divide-recoloured x (y .blank) (y .beyond) (y .long);
-          core = w₁;
-          gone = t;
-          trimmed = z;
+          handed = handed (a .ask) recoloured x (y .blank) (y .beyond) (y .long);
+          ready = w₁;
+          made = z;
           swept = w₂;
           pivots = y .pivots;
           sweeps = y .sweeps;
-          colours = y .colours;
           drawn = y .drawn;
           advanced = y .advanced;
-          few = omega (arith, labels-same g b w₂ w₃ c₃, fewer);
-          many = omega (arith, rings-none (g .n) (col b w₂) (col b w₃) (λ v l m. inl (c₃ v l)), trim-rings (a .stage) (a .first .part) known z, sweeps-many (a .first .part) known (y .sweeps));
-          some = omega (arith, some₂, labels-same g b w₂ w₃ c₃);
+          most = omega (arith, course .left, many-le (λ v. eqb (col b w₁ v) q) (g .n));
+          many = omega (arith, rings₃, course .many, rings₁);
+          few = λ o. omega (arith, labels-same g b w₂ w₃ c₃, course .few o, labels₁);
+          some = λ o. omega (arith, labels-same g b w₂ w₃ c₃, some₂ o);
+          alone = λ o. omega (arith, rings₃, course .alone o, rings₁);
         }

@@ -1,5 +1,5 @@
 -- A part that was swept is handed out, whatever swept it.
-use Prim.Native.Nat.{ℕ, _+_, _*_, _≤_, _<_}
+use Prim.Native.Nat.{ℕ, _+_, _≤_, _<_}
 use native.Mathlib.Omega.{arith}
 use native.Mathlib.Decide.{ℕ-discrete}
 use mathlib.Core.Path.{_≡_, sym, ap, _∙_}
@@ -9,14 +9,12 @@ use lib.ListN.{length, getD, drop}
 use lib.Seq.{getD-drop}
 use Rattle.graph.specs.Graph.{Graph}
 use Rattle.graph.specs.Limits.{wordsOf}
-use Rattle.paint.specs.Colours.{col}
-use Rattle.parts.specs.State.{ord}
-use Rattle.parts.specs.Chain.{own, nxt, head, Follows}
+use Rattle.memory.specs.Decomposer.{col, ord, own, nxt, head, chainsAt, orderAt, pendingAt}
+use Rattle.split.specs.Chain.{Follows}
 use Rattle.parts.specs.Share.{Sharing, ShareAsk}
 use Rattle.parts.specs.Divide.{Blank, DivideAsk, Recoloured, Handed}
-use Rattle.parts.proofs.Sweeping.{top-le}
 use Rattle.parts.proofs.Sharing.{pigeons}
-use Rattle.parts.proofs.Same.{follows-same, first-same, stage-same}
+use Rattle.split.proofs.Same.{top-le, follows-same, first-same, stage-same}
 
 module _ {g : Graph} {b h top : ℕ} {w ws : List ℕ} (a : DivideAsk g b h top w ws) {w₂ : List ℕ} {top' : ℕ} (y : Recoloured g b h top w w₂ top') where
   -- the part's colour is no new one
@@ -24,10 +22,10 @@ module _ {g : Graph} {b h top : ℕ} {w ws : List ℕ} (a : DivideAsk g b h top 
   known = a .stage .owned .below (ord (g .n) b w h) (a .stage .placed .low h (a .first .low))
 
   ord₂ : (i : ℕ) → ord (g .n) b w₂ i ≡ ord (g .n) b w i
-  ord₂ i = y .high (b + 9 * g .n + 2 + i) (omega arith)
+  ord₂ i = y .inside .high (orderAt (g .n) b + i) (omega arith)
 
   nxt₂ : (i : ℕ) → i < g .n → nxt (g .n) b w₂ i ≡ nxt (g .n) b w i
-  nxt₂ i l = y .chains (b + 2 * g .n + i) (omega arith) (omega arith)
+  nxt₂ i l = y .inside .mid (chainsAt (g .n) b + i) (omega arith) (omega arith)
 
   own₂ : (i : ℕ) → own (g .n) b w₂ i ≡ col b w₂ (ord (g .n) b w i)
   own₂ i = ap (col b w₂) (ord₂ i)
@@ -52,7 +50,7 @@ module _ {g : Graph} {b h top : ℕ} {w ws : List ℕ} (a : DivideAsk g b h top 
     ours = λ i l m. elim (ℕ-discrete (own (g .n) b w i) (own (g .n) b w h)) as (λ _. own (g .n) b w i ≡ own (g .n) b w h) [ yes e ↦ e | no e ↦ absurd (omega (arith, m, old i l e)) ];
     split = λ i l e. rw (own₂ i) (y .ours (ord (g .n) b w i) (a .stage .placed .low i l) e);
     below = λ i l. y .stage .owned .below (ord (g .n) b w₂ i) (y .stage .placed .low i l);
-    none = λ c l m. rw (y .chains (b + 2 * g .n + c) (omega arith) (omega (arith, m, top-le (y .stage)))) (a .none c l (omega (arith, m, top-le (y .stage))));
+    none = λ c l m. rw (y .inside .mid (chainsAt (g .n) b + c) (omega arith) (omega (arith, m, top-le (y .stage)))) (a .none c l (omega (arith, m, top-le (y .stage))));
   }
 
   module _ {w₃ : List ℕ} {children : ℕ} (x : Sharing (g .n) b top top' w₂ (g .n) w₃ children) where
@@ -60,7 +58,7 @@ module _ {g : Graph} {b h top : ℕ} {w ws : List ℕ} (a : DivideAsk g b h top 
     hand-colour v l = x .low (b + v) (omega arith)
 
     ord₃ : (i : ℕ) → ord (g .n) b w₃ i ≡ ord (g .n) b w₂ i
-    ord₃ i = x .high (b + 9 * g .n + 2 + i) (omega arith)
+    ord₃ i = x .high (orderAt (g .n) b + i) (omega arith)
 
     own₃ : (i : ℕ) → i < g .n → own (g .n) b w₃ i ≡ own (g .n) b w₂ i
     own₃ i l = ap (col b w₃) (ord₃ i) ∙ hand-colour (ord (g .n) b w₂ i) (y .stage .placed .low i l)
@@ -76,7 +74,7 @@ module _ {g : Graph} {b h top : ℕ} {w ws : List ℕ} (a : DivideAsk g b h top 
     pub handed : {ws' : List ℕ} → Blank (g .n) ws' → ((j : ℕ) → wordsOf (g .n) ≤ j → getD ws' j 0 ≡ getD ws j 0) → length ws' ≡ length ws
         → Handed g b h top w ws w₃ ws' top' children
     handed blank beyond long = record {
-      stage = stage-same g b top' w₂ w₃ (x .low) ord₃ (x .long) (y .stage);
+      stage = stage-same w₃ (y .stage) (λ j l. x .low j (omega arith)) (x .high) (x .long) (omega (arith, known, a .first .part, y .more)) hand-colour;
       others = λ v l o. hand-colour v l ∙ y .others v l o;
       ours = λ v l e. rw (hand-colour v l) (y .ours v l e);
       rest = λ i l o. x .rest i l (inr (old i l o)) ∙ nxt₂ i l;
@@ -84,13 +82,13 @@ module _ {g : Graph} {b h top : ℕ} {w ws : List ℕ} (a : DivideAsk g b h top 
       heads = λ j l. let d = x .heads j l in (first-same own₃ (d .0), omega (arith, d .1, own₃ (head (g .n) b w₃ j) (head-low j l)));
       all = λ i l m. let d = x .all i l (omega (arith, m, own₃ i l)) in (d .0, d .1, own₃ (head (g .n) b w₃ (d .0)) (head-low (d .0) (d .1)) ∙ d .2 ∙ sym (own₃ i l));
       apart = λ i j l m e. x .apart i j l m (sym (own₃ (head (g .n) b w₃ i) (head-low i (omega arith))) ∙ e ∙ own₃ (head (g .n) b w₃ j) (head-low j m));
-      most = pigeons (drop (b + 8 * g .n + 2) w₃) (g .n) children
-          (λ j l. rw (getD-drop (b + 8 * g .n + 2) w₃ j 0) (head-low j l))
-          (λ i j l m e. x .apart i j l m (ap (own (g .n) b w₂) (sym (getD-drop (b + 8 * g .n + 2) w₃ i 0) ∙ e ∙ getD-drop (b + 8 * g .n + 2) w₃ j 0)));
-      none = λ c l m. rw (x .above c l m, y .chains (b + 2 * g .n + c) (omega arith) (omega arith)) (a .none c (omega (arith, l, y .more)) m);
-      low = λ j l. x .low j (omega arith) ∙ y .low j l;
-      high = λ j l. x .high j l ∙ y .high j l;
-      long = x .long ∙ y .long;
+      most = pigeons (drop (pendingAt (g .n) b) w₃) (g .n) children
+          (λ j l. rw (getD-drop (pendingAt (g .n) b) w₃ j 0) (head-low j l))
+          (λ i j l m e. x .apart i j l m (ap (own (g .n) b w₂) (sym (getD-drop (pendingAt (g .n) b) w₃ i 0) ∙ e ∙ getD-drop (pendingAt (g .n) b) w₃ j 0)));
+      none = λ c l m. rw (x .above c l m, y .inside .mid (chainsAt (g .n) b + c) (omega arith) (omega arith)) (a .none c (omega (arith, l, y .more)) m);
+      low = λ j l. x .low j (omega arith) ∙ y .inside .low j l;
+      high = λ j l. x .high j l ∙ y .inside .high j l;
+      long = x .long ∙ y .inside .long;
       blank = blank;
       beyond = beyond;
       words-long = long;

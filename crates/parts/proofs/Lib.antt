@@ -1,12 +1,3 @@
-pub mod Naming
-pub mod Splitting
-pub mod Rings
-pub mod Sweeping
-pub mod Marking
-pub mod Drawing
 pub mod Sharing
-pub mod Same
-pub mod ByKind
 pub mod Handing
 pub mod Dividing
-pub mod Choice

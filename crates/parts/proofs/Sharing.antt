@@ -12,9 +12,8 @@ use lib.Seq.{getD-set-same, getD-set-other, getD-drop}
 use Rattle.graph.specs.Numbers.{some-below, many}
 use Rattle.graph.proofs.Counts.{many-le, many-more}
 use Rattle.graph.proofs.Tests.{eq-T, some-below-iff}
-use Rattle.paint.specs.Colours.{col}
-use Rattle.parts.specs.State.{ord}
-use Rattle.parts.specs.Chain.{own, nxt, lst, head, Follows, First}
+use Rattle.memory.specs.Decomposer.{col, ord, own, nxt, lst, head, chainsAt, orderAt, pendingAt}
+use Rattle.split.specs.Chain.{Follows, First}
 use Rattle.parts.specs.Share.{Linked, HangAsk, Hung, UpTo, Last, Sharing, ShareAsk}
 
 -- PIGEONS: k different numbers below n are at most n
@@ -40,30 +39,27 @@ module _ (xs : List ℕ) (n k : ℕ) (low : (i : ℕ) → i < k → getD xs i 0 
   pigeons = omega (arith, grows k (omega arith), many-le (seen k) n)
 
 -- three stores in places of their own
-module _ (w : List ℕ) (p x q y r z : ℕ) (hp : p < length w) (hq : q < length w) (hr : r < length w) (pq : p ≡ q → ⊥) (pr : p ≡ r → ⊥) (qr : q ≡ r → ⊥) where
-  w₃ : List ℕ
-  w₃ = set (set (set w p x) q y) r z
+record Stored (w w' : List ℕ) (p x q y r z : ℕ) : Type 0 where
+  long : length w' ≡ length w
+  first : getD w' p 0 ≡ x
+  second : getD w' q 0 ≡ y
+  third : getD w' r 0 ≡ z
+  else : (j : ℕ) → (j ≡ p → ⊥) → (j ≡ q → ⊥) → (j ≡ r → ⊥) → getD w' j 0 ≡ getD w j 0
 
-  l₁ : length (set w p x) ≡ length w
-  l₁ = length-set w p x
-
-  l₂ : length (set (set w p x) q y) ≡ length w
-  l₂ = length-set (set w p x) q y ∙ l₁
-
-  pub three-long : length (set (set (set w p x) q y) r z) ≡ length w
-  three-long = length-set (set (set w p x) q y) r z ∙ l₂
-
-  pub three-1 : getD (set (set (set w p x) q y) r z) p 0 ≡ x
-  three-1 = getD-set-other (set (set w p x) q y) r p z 0 pr ∙ getD-set-other (set w p x) q p y 0 pq ∙ getD-set-same w p x 0 hp
-
-  pub three-2 : getD (set (set (set w p x) q y) r z) q 0 ≡ y
-  three-2 = getD-set-other (set (set w p x) q y) r q z 0 qr ∙ getD-set-same (set w p x) q y 0 (omega (arith, l₁))
-
-  pub three-3 : getD (set (set (set w p x) q y) r z) r 0 ≡ z
-  three-3 = getD-set-same (set (set w p x) q y) r z 0 (omega (arith, l₂))
-
-  pub three-else : (j : ℕ) → (j ≡ p → ⊥) → (j ≡ q → ⊥) → (j ≡ r → ⊥) → getD (set (set (set w p x) q y) r z) j 0 ≡ getD w j 0
-  three-else j a b c = getD-set-other (set (set w p x) q y) r j z 0 c ∙ getD-set-other (set w p x) q j y 0 b ∙ getD-set-other w p j x 0 a
+stored : (w : List ℕ) (p x q y r z : ℕ) → p < length w → q < length w → r < length w → (p ≡ q → ⊥) → (p ≡ r → ⊥) → (q ≡ r → ⊥)
+    → Stored w (set (set (set w p x) q y) r z) p x q y r z
+stored w p x q y r z hp hq hr pq pr qr =
+    let w₁ = set w p x in
+    let w₂ = set w₁ q y in
+    let l₁ : length w₁ ≡ length w = length-set w p x in
+    let l₂ : length w₂ ≡ length w = length-set w₁ q y ∙ l₁ in
+    record {
+      long = length-set w₂ r z ∙ l₂;
+      first = getD-set-other w₂ r p z 0 pr ∙ getD-set-other w₁ q p y 0 pq ∙ getD-set-same w p x 0 hp;
+      second = getD-set-other w₂ r q z 0 qr ∙ getD-set-same w₁ q y 0 (omega (arith, l₁));
+      third = getD-set-same w₂ r z 0 (omega (arith, l₂));
+      else = λ j a b c. getD-set-other w₂ r j z 0 c ∙ getD-set-other w₁ q j y 0 b ∙ getD-set-other w p j x 0 a;
+    }
 
 module _ (n b base lim : ℕ) (w₀ : List ℕ) where
   -- places that belong to no new part are passed over
@@ -100,9 +96,9 @@ module _ (n b base lim : ℕ) (w₀ : List ℕ) where
   module _ (fits : b + 10 * n + 2 ≤ length w₀) (order : n < base) (most : lim ≤ 4 * n + 2)
       (i : ℕ) (w : List ℕ) (k : ℕ) (z : Sharing n b base lim w₀ i w k) (l : i < n) (new : base ≤ own n b w₀ i) (old : own n b w₀ i < lim) where
     few : k ≤ n
-    few = pigeons (drop (b + 8 * n + 2) w) n k
-        (λ j h. rw (getD-drop (b + 8 * n + 2) w j 0) (z .heads j h .0 .low))
-        (λ j x h q e. z .apart j x h q (ap (own n b w₀) (sym (getD-drop (b + 8 * n + 2) w j 0) ∙ e ∙ getD-drop (b + 8 * n + 2) w x 0)))
+    few = pigeons (drop (pendingAt n b) w) n k
+        (λ j h. rw (getD-drop (pendingAt n b) w j 0) (z .heads j h .0 .low))
+        (λ j x h q e. z .apart j x h q (ap (own n b w₀) (sym (getD-drop (pendingAt n b) w j 0) ∙ e ∙ getD-drop (pendingAt n b) w x 0)))
 
     -- no place below i has its colour, if the last of it is not known
     fresh : n ≤ lst n b w (own n b w₀ i) → (x : ℕ) → x < i → own n b w₀ x ≡ own n b w₀ i → ⊥
@@ -114,27 +110,27 @@ module _ (n b base lim : ℕ) (w₀ : List ℕ) where
     pub room : n ≤ lst n b w (own n b w₀ i) → k < n
     room t = omega (
       arith,
-      pigeons (drop (b + 8 * n + 2) x) n (k + 1)
-          (λ j h. rw (getD-drop (b + 8 * n + 2) x j 0) (elim (ℕ-discrete j k) as (λ _. getD x (b + 8 * n + 2 + j) 0 < n) [
+      pigeons (drop (pendingAt n b) x) n (k + 1)
+          (λ j h. rw (getD-drop (pendingAt n b) x j 0) (elim (ℕ-discrete j k) as (λ _. getD x (pendingAt n b + j) 0 < n) [
             | yes q ↦ rw (q, here) l
             | no q ↦ rw (else j q) (z .heads j (omega arith) .0 .low)
           ]))
           (λ j y h q e.
-          let e′ : getD x (b + 8 * n + 2 + j) 0 ≡ getD x (b + 8 * n + 2 + y) 0 = sym (getD-drop (b + 8 * n + 2) x j 0) ∙ e ∙ getD-drop (b + 8 * n + 2) x y 0 in
+          let e′ : getD x (pendingAt n b + j) 0 ≡ getD x (pendingAt n b + y) 0 = sym (getD-drop (pendingAt n b) x j 0) ∙ e ∙ getD-drop (pendingAt n b) x y 0 in
           elim (ℕ-discrete y k) as (λ _. ⊥) [
-            | yes r ↦ apart-i t j (omega arith) (ap (own n b w₀) (sym (else j (omega arith)) ∙ e′ ∙ ap (λ (c : ℕ). getD x (b + 8 * n + 2 + c) 0) r ∙ here))
+            | yes r ↦ apart-i t j (omega arith) (ap (own n b w₀) (sym (else j (omega arith)) ∙ e′ ∙ ap (λ (c : ℕ). getD x (pendingAt n b + c) 0) r ∙ here))
             | no r ↦ z .apart j y h (omega arith) (ap (own n b w₀) (sym (else j (omega arith)) ∙ e′ ∙ else y r))
           ]),
     )
       where
         x : List ℕ
-        x = set w (b + 8 * n + 2 + k) i
+        x = set w (pendingAt n b + k) i
 
-        here : getD x (b + 8 * n + 2 + k) 0 ≡ i
-        here = getD-set-same w (b + 8 * n + 2 + k) i 0 (omega (arith, few, fits, z .long))
+        here : getD x (pendingAt n b + k) 0 ≡ i
+        here = getD-set-same w (pendingAt n b + k) i 0 (omega (arith, few, fits, z .long))
 
-        else : (j : ℕ) → (j ≡ k → ⊥) → getD x (b + 8 * n + 2 + j) 0 ≡ head n b w j
-        else j q = getD-set-other w (b + 8 * n + 2 + k) (b + 8 * n + 2 + j) i 0 (omega arith)
+        else : (j : ℕ) → (j ≡ k → ⊥) → getD x (pendingAt n b + j) 0 ≡ head n b w j
+        else j q = getD-set-other w (pendingAt n b + k) (pendingAt n b + j) i 0 (omega arith)
 
     -- what both ways of handing out have in common
     module _ (w' : List ℕ) (lc : lst n b w' (own n b w₀ i) ≡ i) (le : (d : ℕ) → n ≤ d → d < 4 * n + 2 → (d ≡ own n b w₀ i → ⊥) → lst n b w' d ≡ lst n b w d) where
@@ -150,16 +146,19 @@ module _ (n b base lim : ℕ) (w₀ : List ℕ) where
       above′ : (d : ℕ) → lim ≤ d → d < 4 * n + 2 → lst n b w' d ≡ lst n b w₀ d
       above′ d h t = le d (omega arith) t (omega arith) ∙ z .above d h t
 
+    the : (y g : ℕ) → chainsAt n b + y ≡ chainsAt n b + g → y ≡ g
+    the y g e = omega arith
+
     pub hang-more : (w' : List ℕ) (k' : ℕ) → Linked n b i (own n b w₀ i) k w w' k' → Sharing n b base lim w₀ (i + 1) w' k'
     hang-more w' k' (inl (h, p, q)) = rw (p, q) (record {
-      low = λ j t. else j (omega arith) (omega arith) (omega arith) ∙ z .low j t;
-      high = λ j t. else j (omega (arith, old, most)) (omega arith) (omega arith) ∙ z .high j t;
-      long = long ∙ z .long;
+      low = λ j t. st .else j (omega arith) (omega arith) (omega arith) ∙ z .low j t;
+      high = λ j t. st .else j (omega (arith, old, most)) (omega arith) (omega arith) ∙ z .high j t;
+      long = st .long ∙ z .long;
       next = λ u a t. elim (ℕ-discrete u i) as (λ _. UpTo n (own n b w₀) (i + 1) u (nxt n b x u)) [
-        | yes e ↦ rw (e, two) (l, inl (refl, λ y f g. absurd (omega arith)))
+        | yes e ↦ rw (e, st .second) (l, inl (refl, λ y f g. absurd (omega arith)))
         | no e ↦ elim (ℕ-discrete u s) as (λ _. UpTo n (own n b w₀) (i + 1) u (nxt n b x u)) [
-          | yes f ↦ rw (f, three) (is .0, inr (omega arith, sym (is .1), λ y d g m. is .2 y d g (m ∙ is .1)))
-          | no f ↦ rw (else (b + 2 * n + u) (omega arith) (omega arith) (omega arith)) (let y = z .next u (omega arith) t in (
+          | yes f ↦ rw (f, st .third) (is .0, inr (omega arith, sym (is .1), λ y d g m. is .2 y d g (m ∙ is .1)))
+          | no f ↦ rw (st .else (chainsAt n b + u) (omega arith) (omega arith) (omega arith)) (let y = z .next u (omega arith) t in (
             y .0,
             ⊎-elim
                 (λ r. inl (
@@ -175,10 +174,10 @@ module _ (n b base lim : ℕ) (w₀ : List ℕ) where
           ))
         ]
       ];
-      rest = λ u a t. else (b + 2 * n + u) (omega arith) (⊎-elim (λ r. omega arith) (λ r e. omega (arith, ap (own n b w₀) (the u i e), r, new)) t) (⊎-elim (λ r. omega (arith, is .0)) (λ r e. omega (arith, ap (own n b w₀) (the u s e), r, is .1, new)) t)
+      rest = λ u a t. st .else (chainsAt n b + u) (omega arith) (⊎-elim (λ r. omega arith) (λ r e. omega (arith, ap (own n b w₀) (the u i e), r, new)) t) (⊎-elim (λ r. omega (arith, is .0)) (λ r e. omega (arith, ap (own n b w₀) (the u s e), r, is .1, new)) t)
           ∙ z .rest u a (⊎-elim (λ r. inl (omega arith)) (λ r. inr r) t);
-      last = last′ x one (λ d a m o. else (b + 2 * n + d) (omega arith) (omega arith) (omega (arith, is .0)));
-      above = above′ x one (λ d a m o. else (b + 2 * n + d) (omega arith) (omega arith) (omega (arith, is .0)));
+      last = last′ x (st .first) (λ d a m o. st .else (chainsAt n b + d) (omega arith) (omega arith) (omega (arith, is .0)));
+      above = above′ x (st .first) (λ d a m o. st .else (chainsAt n b + d) (omega arith) (omega arith) (omega (arith, is .0)));
       heads = λ j a. rw (stack j) (let y = z .heads j a in (y .0, y .1, omega (arith, y .2)));
       all = λ u a t. elim (ℕ-discrete u i) as (λ _. (j : ℕ) × (j < k) × (own n b w₀ (head n b x j) ≡ own n b w₀ u)) [
         | yes e ↦ let y = z .all s (is .0) (omega (arith, is .1, new)) in (y .0, y .1, ap (own n b w₀) (stack (y .0)) ∙ y .2 ∙ is .1 ∙ ap (own n b w₀) (sym e))
@@ -194,53 +193,21 @@ module _ (n b base lim : ℕ) (w₀ : List ℕ) where
         is = ⊎-elim (λ r. absurd (omega (arith, r .0, h))) (λ r. r) (z .last (own n b w₀ i) new old)
 
         x : List ℕ
-        x = set (set (set w (b + 2 * n + own n b w₀ i) i) (b + 2 * n + i) n) (b + 2 * n + lst n b w (own n b w₀ i)) i
+        x = set (set (set w (chainsAt n b + own n b w₀ i) i) (chainsAt n b + i) n) (chainsAt n b + lst n b w (own n b w₀ i)) i
 
-        h₁ : b + 2 * n + own n b w₀ i < length w
-        h₁ = omega (arith, fits, z .long, most, old)
-
-        h₂ : b + 2 * n + i < length w
-        h₂ = omega (arith, fits, z .long)
-
-        h₃ : b + 2 * n + lst n b w (own n b w₀ i) < length w
-        h₃ = omega (arith, fits, z .long)
-
-        d₁ : b + 2 * n + own n b w₀ i ≡ b + 2 * n + i → ⊥
-        d₁ e = omega (arith, e, new)
-
-        d₂ : b + 2 * n + own n b w₀ i ≡ b + 2 * n + lst n b w (own n b w₀ i) → ⊥
-        d₂ e = omega (arith, e, new)
-
-        d₃ : b + 2 * n + i ≡ b + 2 * n + lst n b w (own n b w₀ i) → ⊥
-        d₃ e = omega (arith, e, is .0)
-
-        long : length x ≡ length w
-        long = three-long w (b + 2 * n + own n b w₀ i) i (b + 2 * n + i) n (b + 2 * n + lst n b w (own n b w₀ i)) i h₁ h₂ h₃ d₁ d₂ d₃
-
-        one : lst n b x (own n b w₀ i) ≡ i
-        one = three-1 w (b + 2 * n + own n b w₀ i) i (b + 2 * n + i) n (b + 2 * n + lst n b w (own n b w₀ i)) i h₁ h₂ h₃ d₁ d₂ d₃
-
-        two : nxt n b x i ≡ n
-        two = three-2 w (b + 2 * n + own n b w₀ i) i (b + 2 * n + i) n (b + 2 * n + lst n b w (own n b w₀ i)) i h₁ h₂ h₃ d₁ d₂ d₃
-
-        three : nxt n b x s ≡ i
-        three = three-3 w (b + 2 * n + own n b w₀ i) i (b + 2 * n + i) n (b + 2 * n + lst n b w (own n b w₀ i)) i h₁ h₂ h₃ d₁ d₂ d₃
-
-        else : (j : ℕ) → (j ≡ b + 2 * n + own n b w₀ i → ⊥) → (j ≡ b + 2 * n + i → ⊥) → (j ≡ b + 2 * n + lst n b w (own n b w₀ i) → ⊥) → getD x j 0 ≡ getD w j 0
-        else = three-else w (b + 2 * n + own n b w₀ i) i (b + 2 * n + i) n (b + 2 * n + lst n b w (own n b w₀ i)) i h₁ h₂ h₃ d₁ d₂ d₃
-
-        the : (y g : ℕ) → b + 2 * n + y ≡ b + 2 * n + g → y ≡ g
-        the y g e = omega arith
+        st : Stored w x (chainsAt n b + own n b w₀ i) i (chainsAt n b + i) n (chainsAt n b + lst n b w (own n b w₀ i)) i
+        st = stored w (chainsAt n b + own n b w₀ i) i (chainsAt n b + i) n (chainsAt n b + lst n b w (own n b w₀ i)) i (omega (arith, fits, z .long, most, old)) (omega (arith, fits, z .long))
+            (omega (arith, fits, z .long)) (λ e. omega (arith, e, new)) (λ e. omega (arith, e, new)) (λ e. omega (arith, e, is .0))
 
         stack : (j : ℕ) → head n b x j ≡ head n b w j
-        stack j = else (b + 8 * n + 2 + j) (omega (arith, old, most)) (omega arith) (omega (arith, is .0))
+        stack j = st .else (pendingAt n b + j) (omega (arith, old, most)) (omega arith) (omega (arith, is .0))
     hang-more w' k' (inr (h, p, q)) = rw (p, q) (record {
-      low = λ j t. else j (omega arith) (omega arith) (omega arith) ∙ z .low j t;
-      high = λ j t. else j (omega (arith, old, most)) (omega arith) (omega (arith, room h)) ∙ z .high j t;
-      long = long ∙ z .long;
+      low = λ j t. st .else j (omega arith) (omega arith) (omega arith) ∙ z .low j t;
+      high = λ j t. st .else j (omega (arith, old, most)) (omega arith) (omega (arith, room h)) ∙ z .high j t;
+      long = st .long ∙ z .long;
       next = λ u a t. elim (ℕ-discrete u i) as (λ _. UpTo n (own n b w₀) (i + 1) u (nxt n b x u)) [
-        | yes e ↦ rw (e, two) (l, inl (refl, λ y f g. absurd (omega arith)))
-        | no e ↦ rw (else (b + 2 * n + u) (omega arith) (omega arith) (omega arith)) (let y = z .next u (omega arith) t in (
+        | yes e ↦ rw (e, st .second) (l, inl (refl, λ y f g. absurd (omega arith)))
+        | no e ↦ rw (st .else (chainsAt n b + u) (omega arith) (omega arith) (omega arith)) (let y = z .next u (omega arith) t in (
           y .0,
           ⊎-elim
               (λ r. inl (
@@ -253,65 +220,33 @@ module _ (n b base lim : ℕ) (w₀ : List ℕ) where
               (λ r. inr (omega (arith, r .0), r .1, r .2)) (y .1),
         ))
       ];
-      rest = λ u a t. else (b + 2 * n + u) (omega arith) (⊎-elim (λ r. omega arith) (λ r e. omega (arith, ap (own n b w₀) (the u i e), r, new)) t) (omega arith)
+      rest = λ u a t. st .else (chainsAt n b + u) (omega arith) (⊎-elim (λ r. omega arith) (λ r e. omega (arith, ap (own n b w₀) (the u i e), r, new)) t) (omega arith)
           ∙ z .rest u a (⊎-elim (λ r. inl (omega arith)) (λ r. inr r) t);
-      last = last′ x one (λ d a m o. else (b + 2 * n + d) (omega arith) (omega arith) (omega arith));
-      above = above′ x one (λ d a m o. else (b + 2 * n + d) (omega arith) (omega arith) (omega arith));
+      last = last′ x (st .first) (λ d a m o. st .else (chainsAt n b + d) (omega arith) (omega arith) (omega arith));
+      above = above′ x (st .first) (λ d a m o. st .else (chainsAt n b + d) (omega arith) (omega arith) (omega arith));
       heads = λ j a. elim (ℕ-discrete j k) as (λ _. First n (own n b w₀) (head n b x j) × (base ≤ own n b w₀ (head n b x j)) × (head n b x j < i + 1)) [
-        | yes e ↦ rw (e, three) (record { low = l; part = omega (arith, new, order); none = fresh h }, new, omega arith)
+        | yes e ↦ rw (e, st .third) (record { low = l; part = omega (arith, new, order); none = fresh h }, new, omega arith)
         | no e ↦ rw (stack j (omega arith)) (let y = z .heads j (omega arith) in (y .0, y .1, omega (arith, y .2)))
       ];
       all = λ u a t. elim (ℕ-discrete u i) as (λ _. (j : ℕ) × (j < k + 1) × (own n b w₀ (head n b x j) ≡ own n b w₀ u)) [
-        | yes e ↦ (k, omega arith, ap (own n b w₀) (three ∙ sym e))
+        | yes e ↦ (k, omega arith, ap (own n b w₀) (st .third ∙ sym e))
         | no e ↦ let y = z .all u (omega arith) t in (y .0, omega (arith, y .1), ap (own n b w₀) (stack (y .0) (y .1)) ∙ y .2)
       ];
       apart = λ j m a d e. elim (ℕ-discrete m k) as (λ _. ⊥) [
-        | yes y ↦ apart-i h j (omega arith) (ap (own n b w₀) (sym (stack j (omega arith))) ∙ e ∙ ap (own n b w₀) (ap (head n b x) y ∙ three))
+        | yes y ↦ apart-i h j (omega arith) (ap (own n b w₀) (sym (stack j (omega arith))) ∙ e ∙ ap (own n b w₀) (ap (head n b x) y ∙ st .third))
         | no y ↦ z .apart j m a (omega arith) (ap (own n b w₀) (sym (stack j (omega arith))) ∙ e ∙ ap (own n b w₀) (stack m (omega arith)))
       ];
     })
       where
         x : List ℕ
-        x = set (set (set w (b + 2 * n + own n b w₀ i) i) (b + 2 * n + i) n) (b + 8 * n + 2 + k) i
+        x = set (set (set w (chainsAt n b + own n b w₀ i) i) (chainsAt n b + i) n) (pendingAt n b + k) i
 
-        h₁ : b + 2 * n + own n b w₀ i < length w
-        h₁ = omega (arith, fits, z .long, most, old)
-
-        h₂ : b + 2 * n + i < length w
-        h₂ = omega (arith, fits, z .long)
-
-        h₃ : b + 8 * n + 2 + k < length w
-        h₃ = omega (arith, fits, z .long, room h)
-
-        d₁ : b + 2 * n + own n b w₀ i ≡ b + 2 * n + i → ⊥
-        d₁ e = omega (arith, e, new)
-
-        d₂ : b + 2 * n + own n b w₀ i ≡ b + 8 * n + 2 + k → ⊥
-        d₂ e = omega (arith, e, old, most)
-
-        d₃ : b + 2 * n + i ≡ b + 8 * n + 2 + k → ⊥
-        d₃ e = omega (arith, e)
-
-        long : length x ≡ length w
-        long = three-long w (b + 2 * n + own n b w₀ i) i (b + 2 * n + i) n (b + 8 * n + 2 + k) i h₁ h₂ h₃ d₁ d₂ d₃
-
-        one : lst n b x (own n b w₀ i) ≡ i
-        one = three-1 w (b + 2 * n + own n b w₀ i) i (b + 2 * n + i) n (b + 8 * n + 2 + k) i h₁ h₂ h₃ d₁ d₂ d₃
-
-        two : nxt n b x i ≡ n
-        two = three-2 w (b + 2 * n + own n b w₀ i) i (b + 2 * n + i) n (b + 8 * n + 2 + k) i h₁ h₂ h₃ d₁ d₂ d₃
-
-        three : head n b x k ≡ i
-        three = three-3 w (b + 2 * n + own n b w₀ i) i (b + 2 * n + i) n (b + 8 * n + 2 + k) i h₁ h₂ h₃ d₁ d₂ d₃
-
-        else : (j : ℕ) → (j ≡ b + 2 * n + own n b w₀ i → ⊥) → (j ≡ b + 2 * n + i → ⊥) → (j ≡ b + 8 * n + 2 + k → ⊥) → getD x j 0 ≡ getD w j 0
-        else = three-else w (b + 2 * n + own n b w₀ i) i (b + 2 * n + i) n (b + 8 * n + 2 + k) i h₁ h₂ h₃ d₁ d₂ d₃
-
-        the : (y g : ℕ) → b + 2 * n + y ≡ b + 2 * n + g → y ≡ g
-        the y g e = omega arith
+        st : Stored w x (chainsAt n b + own n b w₀ i) i (chainsAt n b + i) n (pendingAt n b + k) i
+        st = stored w (chainsAt n b + own n b w₀ i) i (chainsAt n b + i) n (pendingAt n b + k) i (omega (arith, fits, z .long, most, old)) (omega (arith, fits, z .long))
+            (omega (arith, fits, z .long, room h)) (λ e. omega (arith, e, new)) (λ e. omega (arith, e, old, most)) (λ e. omega (arith, e))
 
         stack : (j : ℕ) → j < k → head n b x j ≡ head n b w j
-        stack j a = else (b + 8 * n + 2 + j) (omega (arith, old, most)) (omega arith) (omega arith)
+        stack j a = st .else (pendingAt n b + j) (omega (arith, old, most)) (omega arith) (omega arith)
 
 module _ {n b base lim h : ℕ} {w₀ : List ℕ} (a : ShareAsk n b base lim h w₀) where
   pub share-start : Sharing n b base lim w₀ h w₀ 0
@@ -335,7 +270,7 @@ module _ {n b base lim h : ℕ} {w₀ : List ℕ} (a : ShareAsk n b base lim h w
     next-of = rw (z .rest i l (inl (omega arith))) (a .chain i l here)
 
     ord-same : ord n b w i ≡ ord n b w₀ i
-    ord-same = z .high (b + 9 * n + 2 + i) (omega arith)
+    ord-same = z .high (orderAt n b + i) (omega arith)
 
     own-same : own n b w i ≡ own n b w₀ i
     own-same = ap (col b w) ord-same ∙ z .low (b + ord n b w₀ i) (omega (arith, a .vertex i l))

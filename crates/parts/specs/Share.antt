@@ -1,12 +1,12 @@
--- One pass along a part's chain hands its places to the chains of their new colours; the first place of each new part is pending.
+-- One pass along a part's chain of places hands its places to the chains of their new colours; the first place of each new part is pending.
 use Prim.Native.Nat.{ℕ, _+_, _*_, _≤_, _<_}
 use mathlib.Core.Path.{_≡_}
 use mathlib.Core.List.{List}
 use mathlib.Core.Logic.{_⊎_}
 use lib.ListN.{length, getD, set}
 use Rattle.graph.specs.Limits.{mostVertices}
-use Rattle.parts.specs.State.{ord}
-use Rattle.parts.specs.Chain.{own, nxt, lst, head, Follows, First}
+use Rattle.memory.specs.Decomposer.{ord, own, nxt, lst, head, chainsAt, orderAt, pendingAt}
+use Rattle.split.specs.Chain.{Follows, First}
 
 pub record LinkAsk (n b i c k : ℕ) (w : List ℕ) : Type 0 where
   pub small : n ≤ mostVertices
@@ -19,8 +19,8 @@ pub record LinkAsk (n b i c k : ℕ) (w : List ℕ) : Type 0 where
 -- Place i is the last of the part c: it stands behind the one that was last, or c is pending.
 abbrev pub Linked : ℕ → ℕ → ℕ → ℕ → ℕ → List ℕ → List ℕ → ℕ → Type 0
 Linked n b i c k w w' k' =
-    ((lst n b w c < n) × (w' ≡ set (set (set w (b + 2 * n + c) i) (b + 2 * n + i) n) (b + 2 * n + lst n b w c) i) × (k' ≡ k))
-    ⊎ ((n ≤ lst n b w c) × (w' ≡ set (set (set w (b + 2 * n + c) i) (b + 2 * n + i) n) (b + 8 * n + 2 + k) i) × (k' ≡ k + 1))
+    ((lst n b w c < n) × (w' ≡ set (set (set w (chainsAt n b + c) i) (chainsAt n b + i) n) (chainsAt n b + lst n b w c) i) × (k' ≡ k))
+    ⊎ ((n ≤ lst n b w c) × (w' ≡ set (set (set w (chainsAt n b + c) i) (chainsAt n b + i) n) (pendingAt n b + k) i) × (k' ≡ k + 1))
 
 pub record HangAsk (n b i k : ℕ) (w : List ℕ) : Type 0 where
   pub small : n ≤ mostVertices
@@ -43,8 +43,8 @@ Last n own i c t = ((n ≤ t) × ((x : ℕ) → x < i → own x ≡ c → ⊥)) 
 
 -- The new parts are base .. lim - 1. The places below i have been handed out; k parts are pending.
 pub record Sharing (n b base lim : ℕ) (w₀ : List ℕ) (i : ℕ) (w : List ℕ) (k : ℕ) : Type 0 where
-  pub low : (j : ℕ) → j < b + 2 * n → getD w j 0 ≡ getD w₀ j 0
-  pub high : (j : ℕ) → b + 9 * n + 2 ≤ j → getD w j 0 ≡ getD w₀ j 0
+  pub low : (j : ℕ) → j < chainsAt n b → getD w j 0 ≡ getD w₀ j 0
+  pub high : (j : ℕ) → orderAt n b ≤ j → getD w j 0 ≡ getD w₀ j 0
   pub long : length w ≡ length w₀
   pub next : (u : ℕ) → u < i → base ≤ own n b w₀ u → UpTo n (own n b w₀) i u (nxt n b w u)
   pub rest : (u : ℕ) → u < n → (i ≤ u) ⊎ (own n b w₀ u < base) → nxt n b w u ≡ nxt n b w₀ u

@@ -1,9 +1,9 @@
-// Method 0 on one part: it is trimmed, swept by pivots of a kind, and its new parts are handed out.
+// A part is divided: trimmed (method 0) or prepared (method 1), swept by pivots that the chooser chooses, and its new parts handed out.
 ghost use Rattle.graph.specs.Arrows.{SomeOf, EveryOf};
-ghost use Rattle.parts.specs.Divide.{KindAsk, KindSwept, DivideAsk, Division};
-use crate::drawn;
+ghost use Rattle.parts.specs.Divide.{MethodAsk, MakeAsk, Made, Division};
 use crate::share;
-use crate::sweep;
+use memory::decomposer::ORDER;
+use pivot::chooser::Chooser;
 
 // The chooser's state and the draws made, the first colour that no part has, and the number of pending parts.
 pub struct Divided {
@@ -13,32 +13,16 @@ pub struct Divided {
     pub children: usize,
 }
 
-// The part q, whose chain begins at place h, is swept by pivots of the kind.
-fn swept(
-    n: usize,
-    m: usize,
-    w: &mut [u32],
-    words: &mut [u64],
-    b: usize,
-    kind: u32,
-    state: u32,
-    h: usize,
-    q: u32,
-    top: usize,
-) -> drawn::Outcome
-    requires { ⌜ SomeOf n m (λ g. KindAsk g b h q top (now w) (now words)) ⌝ }
-    ensures { λ r. ⌜ EveryOf n m (λ g. KindAsk g b h q top (now (w .entry)) (now (words .entry)) → KindSwept g b q kind state top (now (w .entry)) (now (words .entry)) (now (w .exit)) (now (words .exit)) (r .state) (r .draws) (r .top)) ⌝ }
+// The part q, whose first place is h, is made ready: method 1 sets cursors and marks, method 0 trims the part.
+fn make(n: usize, m: usize, w: &mut [u32], b: usize, h: usize, q: u32, slicing: u32)
+    requires { ⌜ SomeOf n m (λ g. MakeAsk g b h q (now w)) ⌝ }
+    ensures { λ _. ⌜ EveryOf n m (λ g. MakeAsk g b h q (now (w .entry)) → Made g slicing b q (now (w .entry)) (now (w .exit))) ⌝ }
 {
-    if kind == 1 {
-        let k = (n + 63) / 64;
-        return drawn::sweep(n, m, w, &mut words[..k], b, h, q, state, top);
+    if slicing == 1 {
+        slices::prepare(n, m, w, b);
+        return;
     }
-    let t = sweep::sweep(n, m, w, b, h, q, top);
-    drawn::Outcome {
-        state: state,
-        draws: 0,
-        top: t,
-    }
+    prune::prune(n, m, w, b, h, q);
 }
 
 // The part whose first place is h is divided. The first places of its new parts stand from b + 8 n + 2 on.
@@ -48,18 +32,18 @@ pub fn divide(
     w: &mut [u32],
     words: &mut [u64],
     b: usize,
-    kind: u32,
-    state: u32,
     h: usize,
+    chooser: Chooser,
     top: usize,
+    slicing: u32,
 ) -> Divided
-    requires { ⌜ SomeOf n m (λ g. DivideAsk g b h top (now w) (now words)) ⌝ }
-    ensures { λ r. ⌜ EveryOf n m (λ g. DivideAsk g b h top (now (w .entry)) (now (words .entry)) → Division g b kind state h top (now (w .entry)) (now (words .entry)) (now (w .exit)) (now (words .exit)) (r .state) (r .draws) (r .top) (r .children)) ⌝ }
+    requires { ⌜ SomeOf n m (λ g. MethodAsk g slicing b h top (now w) (now words)) ⌝ }
+    ensures { λ r. ⌜ EveryOf n m (λ g. MethodAsk g slicing b h top (now (w .entry)) (now (words .entry)) → Division g slicing b (chooser .kind) (chooser .state) h top (now (w .entry)) (now (words .entry)) (now (w .exit)) (now (words .exit)) (r .state) (r .draws) (r .top) (r .children)) ⌝ }
 {
-    let v = w[b + 9 * n + 2 + h] as usize;
+    let v = w[b + ORDER * n + 2 + h] as usize;
     let q = w[b + v];
-    trim::prune::prune(n, m, w, b, h, q);
-    let s = swept(n, m, w, words, b, kind, state, h, q, top);
+    make(n, m, w, b, h, q, slicing);
+    let s = sweep::sweep(n, m, w, words, b, h, q, chooser, top, slicing);
     let k = share::share(n, w, b, top, s.top, h);
     Divided {
         state: s.state,

@@ -1,6 +1,3 @@
-// Method 0 on one part: trimming, a sweep of pivots, and the new parts handed out.
+// A part divided by either method: made ready, swept by pivots, and its new parts handed out.
 pub mod divide;
-pub mod drawn;
 pub mod share;
-pub mod split;
-pub mod sweep;

@@ -1,19 +1,22 @@
 // The places of a part are handed out, each behind the last of its new part; the first of each new part is pending.
 ghost use Rattle.parts.specs.Share.{LinkAsk, Linked, HangAsk, Hung, ShareAsk, Sharing};
+use memory::decomposer::CHAINS;
+use memory::decomposer::ORDER;
+use memory::decomposer::PENDING;
 
 // Place i becomes the last of the part c. The number of pending parts then.
 fn link(n: usize, w: &mut [u32], b: usize, i: usize, c: usize, k: usize) -> usize
     requires { ⌜ LinkAsk n b i c k (now w) ⌝ }
     ensures { λ k'. ⌜ Linked n b i c k (now (w .entry)) (now (w .exit)) k' ⌝ }
 {
-    let t = w[b + 2 * n + c] as usize;
-    w[b + 2 * n + c] = i as u32;
-    w[b + 2 * n + i] = n as u32;
+    let t = w[b + CHAINS * n + c] as usize;
+    w[b + CHAINS * n + c] = i as u32;
+    w[b + CHAINS * n + i] = n as u32;
     if t < n {
-        w[b + 2 * n + t] = i as u32;
+        w[b + CHAINS * n + t] = i as u32;
         return k;
     }
-    w[b + 8 * n + 2 + k] = i as u32;
+    w[b + PENDING * n + 2 + k] = i as u32;
     k + 1
 }
 
@@ -22,7 +25,7 @@ fn hang(n: usize, w: &mut [u32], b: usize, i: usize, k: usize) -> usize
     requires { ⌜ HangAsk n b i k (now w) ⌝ }
     ensures { λ k'. ⌜ Hung n b i k (now (w .entry)) (now (w .exit)) k' ⌝ }
 {
-    let v = w[b + 9 * n + 2 + i] as usize;
+    let v = w[b + ORDER * n + 2 + i] as usize;
     let c = w[b + v] as usize;
     if c < n {
         return k;
@@ -38,7 +41,7 @@ pub fn share(n: usize, w: &mut [u32], b: usize, base: usize, lim: usize, h: usiz
     let mut k = 0;
     let mut i = h;
     while i < n {
-        let y = w[b + 2 * n + i] as usize;
+        let y = w[b + CHAINS * n + i] as usize;
         k = hang(n, w, b, i, k);
         i = y;
     }

@@ -1,34 +1,32 @@
 -- One slice: the seeds are sown, what reaches them is painted, its successors are marked.
-use Prim.Native.Nat.{ℕ, zero, suc, _+_, _-_, _*_, _≤_, _<_}
+use Prim.Native.Nat.{ℕ, zero, suc, _+_, _-_, _≤_, _<_}
 use native.Mathlib.Omega.{arith}
 use native.Mathlib.Decide.{decLt}
 use mathlib.Core.Path.{_≡_, sym, ap, _∙_}
 use mathlib.Core.Logic.{_⊎_, inl, inr, ⊎-elim}
-use mathlib.Core.Bool.{_&&_}
 use mathlib.Core.List.{List}
 use lib.ListN.{getD}
-use lib.Dec.{eqb, eqb→eq}
-use Rattle.graph.specs.Graph.{Graph, Part, Valid, rev, stay, Same, edges}
+use Rattle.graph.specs.Graph.{Graph, Valid, rev, stay, Same, edges}
 use Rattle.graph.specs.Parts.{Fwd, Bwd, _∖_}
 use Rattle.graph.specs.Parts as parts
-use Rattle.graph.proofs.Tests.{and-l, and-r, and-make, eq-T}
-use Rattle.graph.proofs.Counts.{many-mono}
 use Rattle.graph.proofs.Chains.{chain-first, valid-rev, same-low, reach-wider}
 use Rattle.graph.proofs.Decompose.{rest-covered}
 use Rattle.graph.proofs.Method.{bwd-rev}
-use Rattle.paint.specs.Colours.{col, paint, Opens, Hit}
+use Rattle.memory.specs.Decomposer.{col, flag, seed, chainsAt, marksAt, seedsAt, Inside}
+use Rattle.paint.specs.Colours.{paint, Opens, Hit}
 use Rattle.paint.specs.Paint.{SearchAsk, VisitAsk, Visited, LevelAsk, Spread, Begun, Searched}
 use Rattle.paint.proofs.Painting.{paint-first, paint-still, paint-opens}
 use Rattle.paint.proofs.Growth.{grew-none}
 use Rattle.paint.proofs.Spreading.{begun-ready, begun-more, begun-ask, begun-searched}
 use Rattle.paint.proofs.Components.{fwd-low, search-whole-back}
-use Rattle.trim.specs.Cursor.{cur, Side}
-use Rattle.trim.proofs.Walks.{side-kept}
-use Rattle.parts.specs.State.{Tables, Owned}
-use Rattle.slices.specs.Seeds.{flag, seed, Rest, Seeds, unmarked, Marked, Behind, AllAsk}
-use Rattle.slices.specs.Peel.{into, Standing, Inside}
+use Rattle.prune.specs.Cursor.{cur, Side}
+use Rattle.prune.proofs.Walks.{side-kept}
+use Rattle.split.specs.State.{Tables, Owned}
+use Rattle.slices.specs.Seeds.{Rest, Seeds, unmarked, Marked, Behind, AllAsk}
+use Rattle.slices.specs.Peel.{into, Standing}
 use Rattle.slices.specs.Slice.{Listed, CutAsk, Cut}
-use Rattle.parts.proofs.Splitting.{tables-kept}
+use Rattle.split.proofs.Same.{tables-kept}
+use Rattle.slices.proofs.Marking.{free-less}
 
 module _ {g : Graph} {b r s l e : ℕ} {w : List ℕ} (a : CutAsk g b r s l e w) where
   st : Standing g b r w
@@ -61,7 +59,7 @@ module _ {g : Graph} {b r s l e : ℕ} {w : List ℕ} (a : CutAsk g b r s l e w)
 
   module _ {i : ℕ} {x : List ℕ} {k : ℕ} (h : i < e) (o : l ≤ i) (z : Begun (rev g) (paint r s r s) b (Listed (g .n) b w l i) w x k) where
     sow-same : seed (g .n) b x i ≡ seed (g .n) b w i
-    sow-same = z .grew .kept .high (b + 8 * g .n + 2 + i) (omega arith)
+    sow-same = z .grew .kept .high (seedsAt (g .n) b + i) (omega arith)
 
     sow-low : seed (g .n) b x i < g .n
     sow-low = rw sow-same (a .listing .member i h)
@@ -88,17 +86,14 @@ module _ {g : Graph} {b r s l e : ℕ} {w : List ℕ} (a : CutAsk g b r s l e w)
     cut-searched {x'} {k'} {seen} y = begun-searched (rev g) (paint r s r s) (g .n + 1 + edges g) b w cut-ask (Listed (g .n) b w l e) x k z x' k' seen y
 
   module _ {w₁ : List ℕ} {k seen : ℕ} (f : Searched (rev g) (paint r s r s) b (Listed (g .n) b w l e) w w₁ k seen) where
-    abbrev X : Part
-    X = Listed (g .n) b w l e
-
     X-low : (v : ℕ) → Listed (g .n) b w l e v → v < g .n
     X-low v (i, p, q, t) = omega (arith, t, a .listing .member i q)
 
     hit-bwd : (v : ℕ) → Hit (rev g) (paint r s r s) b (Listed (g .n) b w l e) w v → Bwd g (Rest (g .n) b r w) (Listed (g .n) b w l e) v
-    hit-bwd v t = bwd-rev ok v .1 (fwd-low {P = λ v. Opens (paint r s r s) (col b w v)} {Q = Rest (g .n) b r w} (valid-rev ok) X-low (λ v h o. (h, opened v o)) v t)
+    hit-bwd v t = bwd-rev v .1 (fwd-low {P = λ v. Opens (paint r s r s) (col b w v)} {Q = Rest (g .n) b r w} (valid-rev ok) X-low (λ v h o. (h, opened v o)) v t)
 
     bwd-hit : (v : ℕ) → Bwd g (Rest (g .n) b r w) (Listed (g .n) b w l e) v → Hit (rev g) (paint r s r s) b (Listed (g .n) b w l e) w v
-    bwd-hit v t = fwd-low {P = Rest (g .n) b r w} {Q = λ v. Opens (paint r s r s) (col b w v)} (valid-rev ok) X-low (λ v h (_, c). open-rest v c) v (bwd-rev ok v .0 t)
+    bwd-hit v t = fwd-low {P = Rest (g .n) b r w} {Q = λ v. Opens (paint r s r s) (col b w v)} (valid-rev ok) X-low (λ v h (_, c). open-rest v c) v (bwd-rev v .0 t)
 
     -- painted, or as it was
     one : (v : ℕ) → v < g .n → (Bwd g (Rest (g .n) b r w) (Listed (g .n) b w l e) v × (col b w v ≡ r) × (col b w₁ v ≡ s))
@@ -117,17 +112,15 @@ module _ {g : Graph} {b r s l e : ℕ} {w : List ℕ} (a : CutAsk g b r s l e w)
     left : (v : ℕ) → v < g .n → col b w₁ v ≡ r → (col b w v ≡ r) × (Bwd g (Rest (g .n) b r w) (Listed (g .n) b w l e) v → ⊥)
     left v h q = ⊎-elim (λ t. absurd (omega (arith, t .2, q, a .under))) (λ t. (sym (t .1) ∙ q, t .0)) (one v h)
 
-    same : (j : ℕ) → (j < b) ⊎ (b + 2 * g .n ≤ j) → getD w₁ j 0 ≡ getD w j 0
+    same : (j : ℕ) → (j < b) ⊎ (chainsAt (g .n) b ≤ j) → getD w₁ j 0 ≡ getD w j 0
     same j (inl h) = f .kept .low j h
     same j (inr h) = f .kept .high j (omega arith)
 
     flag₁ : (v : ℕ) → flag (g .n) b w₁ v ≡ flag (g .n) b w v
-    flag₁ v = same (b + 7 * g .n + 2 + v) (inr (omega arith))
+    flag₁ v = same (marksAt (g .n) b + v) (inr (omega arith))
 
     less-free : unmarked (g .n) b r w₁ ≤ unmarked (g .n) b r w
-    less-free = many-mono (λ u. eqb (col b w₁ u) r && eqb (flag (g .n) b w₁ u) 0) (λ u. eqb (col b w u) r && eqb (flag (g .n) b w u) 0) (g .n)
-        (λ u h t. and-make (eqb (col b w u) r) _ (eq-T (col b w u) r (left u h (eqb→eq (col b w₁ u) r (and-l (eqb (col b w₁ u) r) _ t)) .0))
-        (rw (flag₁ u) at (and-r (eqb (col b w₁ u) r) _ t)))
+    less-free = free-less (g .n) b r w w₁ (λ u h c. (left u h c .0, flag₁ u))
 
     tables₁ : Tables g b w₁
     tables₁ = tables-kept g b w w₁ (f .kept .low) (st .tables)
@@ -214,7 +207,7 @@ module _ {g : Graph} {b r s l e : ℕ} {w : List ℕ} (a : CutAsk g b r s l e w)
           order = m .more;
           room = omega (arith, m .moved, a .listing .room, less-free);
           member = λ i h. elim (decLt i e) as (λ _. seed (g .n) b w₂ i < g .n) [
-            | yes q ↦ rw (m .front i q, same (b + 8 * g .n + 2 + i) (inr (omega arith))) (a .listing .member i q)
+            | yes q ↦ rw (m .front i q, same (seedsAt (g .n) b + i) (inr (omega arith))) (a .listing .member i q)
             | no q ↦ m .fresh i (omega arith) h
           ];
           listed = new;

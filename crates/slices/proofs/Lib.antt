@@ -3,6 +3,4 @@ pub mod Walking
 pub mod Peeling
 pub mod Cutting
 pub mod Slicing
-pub mod Sweeping
-pub mod Drawing
-pub mod Dividing
+pub mod Preparing

@@ -1,5 +1,5 @@
 -- Marking seeds: none, one, more.
-use Prim.Native.Nat.{ℕ, _+_, _-_, _*_, _≤_, _<_}
+use Prim.Native.Nat.{ℕ, _+_, _-_, _≤_, _<_}
 use native.Mathlib.Omega.{arith}
 use native.Mathlib.Decide.{ℕ-discrete, decLt}
 use mathlib.Core.Path.{_≡_, refl, sym, _∙_}
@@ -10,10 +10,10 @@ use lib.ListN.{getD, set, length-set}
 use lib.Seq.{getD-set-same, getD-set-other}
 use lib.Dec.{T, eqb, eqb→eq}
 use Rattle.graph.specs.Graph.{Part}
-use Rattle.graph.proofs.Tests.{and-r, and-make, eq-T}
-use Rattle.graph.proofs.Counts.{many-more, many-one}
-use Rattle.paint.specs.Colours.{col}
-use Rattle.slices.specs.Seeds.{flag, seed, unmarked, MarkAsk, Mark, Marked}
+use Rattle.graph.proofs.Tests.{and-l, and-r, and-make, eq-T}
+use Rattle.graph.proofs.Counts.{many-mono, many-more, many-one}
+use Rattle.memory.specs.Decomposer.{col, flag, seed, marksAt, seedsAt}
+use Rattle.slices.specs.Seeds.{unmarked, MarkAsk, Mark, Marked}
 
 module _ (n b r : ℕ) where
   pub marked-none : (w : List ℕ) (e : ℕ) (Done : Part) → ((v : ℕ) → v < n → Done v → col b w v ≡ r → flag n b w v ≡ 0 → ⊥) → Marked n b r w e w e Done
@@ -51,28 +51,28 @@ module _ (n b r : ℕ) where
   -- y is marked and listed
   module _ (w : List ℕ) (e y : ℕ) (a : MarkAsk n b y r e w) (here : col b w y ≡ r) (none : flag n b w y ≡ 0) where
     abbrev w₁ : List ℕ
-    w₁ = set w (b + 7 * n + 2 + y) 1
+    w₁ = set w (marksAt n b + y) 1
 
     abbrev w₂ : List ℕ
-    w₂ = set w₁ (b + 8 * n + 2 + e) y
+    w₂ = set w₁ (seedsAt n b + e) y
 
     e-low : e < n
     e-low = a .room here none
 
     flagged : flag n b w₂ y ≡ 1
-    flagged = getD-set-other w₁ (b + 8 * n + 2 + e) (b + 7 * n + 2 + y) y 0 (omega (arith, a .low)) ∙ getD-set-same w (b + 7 * n + 2 + y) 1 0 (omega (arith, a .low, a .long))
+    flagged = getD-set-other w₁ (seedsAt n b + e) (marksAt n b + y) y 0 (omega (arith, a .low)) ∙ getD-set-same w (marksAt n b + y) 1 0 (omega (arith, a .low, a .long))
 
-    else : (j : ℕ) → (j ≡ b + 7 * n + 2 + y → ⊥) → (j ≡ b + 8 * n + 2 + e → ⊥) → getD w₂ j 0 ≡ getD w j 0
-    else j p q = getD-set-other w₁ (b + 8 * n + 2 + e) j y 0 q ∙ getD-set-other w (b + 7 * n + 2 + y) j 1 0 p
+    else : (j : ℕ) → (j ≡ marksAt n b + y → ⊥) → (j ≡ seedsAt n b + e → ⊥) → getD w₂ j 0 ≡ getD w j 0
+    else j p q = getD-set-other w₁ (seedsAt n b + e) j y 0 q ∙ getD-set-other w (marksAt n b + y) j 1 0 p
 
     listed : seed n b w₂ e ≡ y
-    listed = getD-set-same w₁ (b + 8 * n + 2 + e) y 0 (omega (arith, e-low, a .long, length-set w (b + 7 * n + 2 + y) 1))
+    listed = getD-set-same w₁ (seedsAt n b + e) y 0 (omega (arith, e-low, a .long, length-set w (marksAt n b + y) 1))
 
     col-same : (v : ℕ) → v < n → col b w₂ v ≡ col b w v
     col-same v h = else (b + v) (omega arith) (omega arith)
 
     flag-same : (v : ℕ) → v < n → (v ≡ y → ⊥) → flag n b w₂ v ≡ flag n b w v
-    flag-same v h o = else (b + 7 * n + 2 + v) (omega arith) (omega arith)
+    flag-same v h o = else (marksAt n b + v) (omega arith) (omega arith)
 
     set-flag : flag n b w₂ y ≡ 0 → ⊥
     set-flag z = omega (arith, z, flagged)
@@ -95,10 +95,10 @@ module _ (n b r : ℕ) where
       many-one (λ v. eqb (col b w₂ v) r && eqb (flag n b w₂ v) 0) (λ v. eqb (col b w v) r && eqb (flag n b w v) 0) n y still-free,
     )
 
-    pub marked-one : Marked n b r w e (set (set w (b + 7 * n + 2 + y) 1) (b + 8 * n + 2 + e) y) (e + 1) (λ v. v ≡ y)
+    pub marked-one : Marked n b r w e (set (set w (marksAt n b + y) 1) (seedsAt n b + e) y) (e + 1) (λ v. v ≡ y)
     marked-one = record {
       more = omega arith;
-      front = λ i h. else (b + 8 * n + 2 + i) (omega (arith, a .low)) (omega arith);
+      front = λ i h. else (seedsAt n b + i) (omega (arith, a .low)) (omega arith);
       fresh = λ i h k. let q : i ≡ e = omega arith in rw (q, listed) (a .low);
       each = λ v h. elim (ℕ-discrete v y) as (λ _. (flag n b w₂ v ≡ flag n b w v) ⊎ ((col b w v ≡ r) × (flag n b w₂ v ≡ 0 → ⊥) × ((i : ℕ) × (e ≤ i) × (i < e + 1) × (seed n b w₂ i ≡ v)))) [
         | yes q ↦ inr (rw q here, rw q set-flag, (e, omega arith, omega arith, listed ∙ sym q))
@@ -109,7 +109,7 @@ module _ (n b r : ℕ) where
       moved = omega (arith, one-less);
       low = λ j h. else j (omega arith) (omega (arith, a .low));
       high = λ j h. else j (omega (arith, a .low)) (omega (arith, e-low));
-      long = length-set w₁ (b + 8 * n + 2 + e) y ∙ length-set w (b + 7 * n + 2 + y) 1;
+      long = length-set w₁ (seedsAt n b + e) y ∙ length-set w (marksAt n b + y) 1;
     }
 
   pub mark-step : (w : List ℕ) (e y : ℕ) → MarkAsk n b y r e w → (w' : List ℕ) (e' : ℕ) → Mark n b y r e w w' e' → Marked n b r w e w' e' (λ v. v ≡ y)
@@ -123,3 +123,9 @@ free-room n b r w y l h z = omega (
   many-more (λ v. false) (λ v. eqb (col b w v) r && eqb (flag n b w v) 0) n (λ i q t. absurd t) y l (λ t. t)
       (and-make (eqb (col b w y) r) _ (eq-T (col b w y) r h) (eq-T (flag n b w y) 0 z)),
 )
+
+-- what remains with the mark it had
+pub free-less : (n b r : ℕ) (w w' : List ℕ) → ((u : ℕ) → u < n → col b w' u ≡ r → (col b w u ≡ r) × (flag n b w' u ≡ flag n b w u)) → unmarked n b r w' ≤ unmarked n b r w
+free-less n b r w w' s = many-mono (λ u. eqb (col b w' u) r && eqb (flag n b w' u) 0) (λ u. eqb (col b w u) r && eqb (flag n b w u) 0) n (λ u h t.
+    let y = s u h (eqb→eq (col b w' u) r (and-l (eqb (col b w' u) r) _ t)) in
+    and-make (eqb (col b w u) r) _ (eq-T (col b w u) r (y .0)) (rw (y .1) at (and-r (eqb (col b w' u) r) _ t)))

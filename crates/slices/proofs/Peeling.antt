@@ -1,10 +1,10 @@
 -- Peeling: none, one vertex, more.
-use Prim.Native.Nat.{ℕ, suc, _+_, _-_, _*_, _≤_, _<_}
+use Prim.Native.Nat.{ℕ, _+_, _-_, _≤_, _<_}
 use native.Mathlib.Omega.{arith}
 use native.Mathlib.Decide.{ℕ-discrete, decLt}
 use mathlib.Core.Path.{_≡_, refl, sym, ap, _∙_}
 use mathlib.Core.Logic.{_⊎_, inl, inr, ⊎-elim}
-use mathlib.Core.Bool.{false, _&&_}
+use mathlib.Core.Bool.{false}
 use mathlib.Core.List.{List}
 use lib.ListN.{length, getD, set, length-set}
 use lib.Seq.{getD-set-same, getD-set-other}
@@ -12,26 +12,21 @@ use lib.Dec.{eqb, eqb→eq}
 use Rattle.graph.specs.Graph.{Graph, Part, rev, edges}
 use Rattle.graph.specs.Parts.{Closed, Fwd, Alone, Entered, only, _∖_}
 use Rattle.graph.specs.Parts as parts
-use Rattle.graph.proofs.Tests.{and-l, and-r, and-make, eq-T}
+use Rattle.graph.proofs.Tests.{eq-T}
 use Rattle.graph.proofs.Counts.{many-le, many-mono, many-more}
-use Rattle.graph.proofs.Chains.{chain-first, edge-rev, same-low, same-sym, reach-wider}
+use Rattle.graph.proofs.Chains.{chain-first, edge-rev, same-low, reach-wider}
 use Rattle.graph.proofs.Decompose.{none-enters, seed-removed}
-use Rattle.graph.proofs.Method.{alone-label}
-use Rattle.trim.specs.Cursor.{cur, Side, Advanced}
-use Rattle.trim.proofs.Walks.{side-kept, on-side, on-none}
-use Rattle.paint.specs.Colours.{col, que}
-use Rattle.parts.specs.State.{Tables, Owned}
-use Rattle.slices.specs.Seeds.{flag, seed, Rest, Seeds, unmarked, Marked, Next, NextAsk}
-use Rattle.slices.specs.Peel.{into, remaining, Standing, Inside, Peeled, PeelAsk, DrainAsk, PassAsk}
+use Rattle.prune.specs.Cursor.{cur, Side, Advanced}
+use Rattle.prune.proofs.Walks.{side-kept, on-side, on-none}
+use Rattle.memory.specs.Decomposer.{col, que, flag, seed, marksAt, seedsAt}
+use Rattle.memory.proofs.Memory.{touched-more, touched-none}
+use Rattle.split.specs.State.{Tables}
+use Rattle.slices.specs.Seeds.{Rest, Seeds, unmarked, Marked, Next, NextAsk}
+use Rattle.slices.specs.Peel.{into, remaining, Standing, Peeled, PeelAsk, DrainAsk, PassAsk}
 use Rattle.index.specs.Index.{first}
-use Rattle.parts.proofs.Splitting.{tables-kept}
+use Rattle.split.proofs.Same.{tables-kept, owned-alone}
 use Rattle.slices.proofs.Walking.{Turn, first-at, row-turn}
-
-pub inside-none : (n b : ℕ) (w : List ℕ) → Inside n b w w
-inside-none n b w = record { low = λ j h. refl; mid = λ j h l. refl; high = λ j h. refl; long = refl }
-
-pub inside-more : {n b : ℕ} {w w₁ w₂ : List ℕ} → Inside n b w w₁ → Inside n b w₁ w₂ → Inside n b w w₂
-inside-more x y = record { low = λ j h. y .low j h ∙ x .low j h; mid = λ j h l. y .mid j h l ∙ x .mid j h l; high = λ j h. y .high j h ∙ x .high j h; long = y .long ∙ x .long }
+use Rattle.slices.proofs.Marking.{free-less}
 
 module _ (g : Graph) (b r : ℕ) where
   -- the part that remains, when only marks have been added
@@ -62,7 +57,7 @@ module _ {g : Graph} {b r : ℕ} where
     line = λ i h. refl;
     behind = λ i h q. absurd (omega arith);
     late = omega arith;
-    inside = inside-none (g .n) b w;
+    inside = touched-none (g .n) b _ w;
   }
 
   pub peeled-more : {w w₁ w₂ : List ℕ} {e e₁ e₂ k k₁ k₂ : ℕ} → Peeled g b r w e k w₁ e₁ k₁ → Peeled g b r w₁ e₁ k₁ w₂ e₂ k₂ → Peeled g b r w e k w₂ e₂ k₂
@@ -85,7 +80,7 @@ module _ {g : Graph} {b r : ℕ} where
     line = λ i h. y .line i (omega (arith, x .late)) ∙ x .line i h;
     behind = λ i h q. elim (decLt i k₁) as (λ _. que (g .n) b w₂ i < g .n) [ yes l ↦ rw (y .line i l) (x .behind i h l) | no l ↦ y .behind i (omega arith) q ];
     late = omega (arith, x .late, y .late);
-    inside = inside-more (x .inside) (y .inside);
+    inside = touched-more (x .inside) (y .inside);
   }
 
   closed-rest : (w : List ℕ) → Standing g b r w → Closed g (Rest (g .n) b r w)
@@ -107,17 +102,10 @@ module _ {g : Graph} {b r : ℕ} where
     col₁ u h = else₁ (b + u) (omega arith)
 
     flag₁ : (u : ℕ) → u < g .n → flag (g .n) b w₁ u ≡ flag (g .n) b w u
-    flag₁ u h = else₁ (b + 7 * g .n + 2 + u) (omega (arith, a .low))
+    flag₁ u h = else₁ (marksAt (g .n) b + u) (omega (arith, a .low))
 
     side₁ : Side (rev g) (g .n + 1 + edges g) (into g b) b r w₁
     side₁ = rw (adv .store) (on-side (rev g) (g .n + 1 + edges g) (into g b) b r w (st .side) (omega arith) (omega (arith, st .long)) v (a .low) live (adv .place) (adv .found))
-
-    owned₁ : Owned g (col b w₁) (suc r)
-    owned₁ = record {
-      whole = λ u y h q. col₁ u h ∙ st .owned .whole u y h q ∙ sym (col₁ y (same-low (st .tables .valid) q h));
-      right = λ u h q. rw (col₁ u h) (st .owned .right u h (rw (col₁ u h) at q));
-      below = λ u h. rw (col₁ u h) (st .owned .below u h);
-    }
 
     standing₁ : Standing g b r w₁
     standing₁ = record {
@@ -125,14 +113,10 @@ module _ {g : Graph} {b r : ℕ} where
       long = omega (arith, st .long, peel-long);
       over = st .over;
       fits = st .fits;
-      owned = owned₁;
+      owned = owned-alone (col b w) (col b w₁) (st .tables .valid) (omega (arith, st .over)) (st .owned) (λ u h. inl (col₁ u h));
       side = side₁;
       cover = cover-more g b r w w₁ (Seeds (g .n) b r w) col₁ (λ u (h, c) (_, _, o). (h, col₁ u h ∙ c, λ z. o (sym (flag₁ u h) ∙ z))) (st .cover);
     }
-
-    same-free : (w w' : List ℕ) → ((u : ℕ) → u < g .n → col b w' u ≡ col b w u) → ((u : ℕ) → u < g .n → flag (g .n) b w' u ≡ flag (g .n) b w u) → unmarked (g .n) b r w' ≤ unmarked (g .n) b r w
-    same-free w w' f p = many-mono (λ u. eqb (col b w' u) r && eqb (flag (g .n) b w' u) 0) (λ u. eqb (col b w u) r && eqb (flag (g .n) b w u) 0) (g .n)
-        (λ u h t. rw (f u h, p u h) at t)
 
     same-rest : (w w' : List ℕ) → ((u : ℕ) → u < g .n → col b w' u ≡ col b w u) → remaining (g .n) b r w' ≤ remaining (g .n) b r w
     same-rest w w' f = many-mono (λ u. eqb (col b w' u) r) (λ u. eqb (col b w u) r) (g .n) (λ u h t. rw (f u h) at t)
@@ -144,10 +128,10 @@ module _ {g : Graph} {b r : ℕ} where
       went = λ u h. inl (col₁ u h);
       kept = λ u h o. (flag₁ u h, else₁ (into g b + u) (λ q. o (let z : u ≡ v = omega arith in rw z live)));
       more = omega arith;
-      front = λ i h. else₁ (b + 8 * g .n + 2 + i) (omega (arith, a .low));
+      front = λ i h. else₁ (seedsAt (g .n) b + i) (omega (arith, a .low));
       fresh = λ i h q. absurd (omega arith);
       each = λ u h. inl (flag₁ u h);
-      room = omega (arith, same-free w w₁ col₁ flag₁);
+      room = omega (arith, free-less (g .n) b r w w₁ (λ u h c. (sym (col₁ u h) ∙ c, flag₁ u h)));
       gone = omega (arith, same-rest w w₁ col₁);
       line = λ i h. else₁ (b + g .n + i) (omega (arith, a .gone));
       behind = λ i h q. absurd (omega arith);
@@ -160,7 +144,7 @@ module _ {g : Graph} {b r : ℕ} where
       unentered : Entered g (Rest (g .n) b r w) v → ⊥
       unentered (i, u, h, y) =
           on-none (rev g) (g .n + 1 + edges g) (into g b) b r w (st .side) (omega arith) (omega (arith, st .long)) v (a .low) live (adv .place) (adv .found) (adv .none z)
-          (i, u, h, edge-rev (st .tables .valid) y)
+          (i, u, h, edge-rev y)
 
       alone : Alone g v
       alone = none-enters (closed-rest w st) (a .low, live) unentered
@@ -193,15 +177,13 @@ module _ {g : Graph} {b r : ℕ} where
       ]
 
       flag₂ : (u : ℕ) → u < g .n → flag (g .n) b w₂ u ≡ flag (g .n) b w u
-      flag₂ u h = else₂ (b + 7 * g .n + 2 + u) (omega (arith, a .low)) (omega (arith, k-low)) ∙ flag₁ u h
+      flag₂ u h = else₂ (marksAt (g .n) b + u) (omega (arith, a .low)) (omega (arith, k-low)) ∙ flag₁ u h
 
       tables₂ : Tables g b w₂
       tables₂ = tables-kept g b w w₂ (λ j h. else₂ j (omega arith) (omega arith) ∙ else₁ j (omega arith)) (st .tables)
 
       less-free : unmarked (g .n) b r w₂ ≤ unmarked (g .n) b r w
-      less-free = many-mono (λ u. eqb (col b w₂ u) r && eqb (flag (g .n) b w₂ u) 0) (λ u. eqb (col b w u) r && eqb (flag (g .n) b w u) 0) (g .n)
-          (λ u h t. and-make (eqb (col b w u) r) _ (eq-T (col b w u) r (rest₂ u h (eqb→eq (col b w₂ u) r (and-l (eqb (col b w₂ u) r) _ t)) .0))
-          (rw (flag₂ u h) at (and-r (eqb (col b w₂ u) r) _ t)))
+      less-free = free-less (g .n) b r w w₂ (λ u h c. (rest₂ u h c .0, flag₂ u h))
 
       less-rest : remaining (g .n) b r w₂ < remaining (g .n) b r w
       less-rest = many-more (λ u. eqb (col b w₂ u) r) (λ u. eqb (col b w u) r) (g .n)
@@ -219,17 +201,6 @@ module _ {g : Graph} {b r : ℕ} where
           | yes d ↦ inr (rw d live, rw d (col₃ v (a .low) ∙ here₂), rw d alone)
           | no d ↦ inl (col₃ u h ∙ col₂ u h d)
         ]
-
-        owned₃ : Owned g (col b w₃) (suc r)
-        owned₃ = record {
-          whole = λ u y h q. elim (ℕ-discrete u v) as (λ _. col b w₃ u ≡ col b w₃ y) [
-            | yes d ↦ ap (col b w₃) (d ∙ alone y (rw d at q))
-            | no d ↦ col₃ u h ∙ col₂ u h d ∙ st .owned .whole u y h q
-                ∙ sym (col₃ y (same-low (st .tables .valid) q h) ∙ col₂ y (same-low (st .tables .valid) q h) (λ i. d (sym (alone u (same-sym (rw i at q))))))
-          ];
-          right = λ u h q. ⊎-elim (λ t. rw t (st .owned .right u h (rw t at q))) (λ t. rw (t .1) (alone-label (t .2))) (went₃ u h);
-          below = λ u h. ⊎-elim (λ t. rw t (st .owned .below u h)) (λ t. omega (arith, t .1, h, st .over)) (went₃ u h);
-        }
 
         cur₃ : (u : ℕ) → u < g .n → cur (into g b) w₃ u ≡ cur (into g b) w₁ u
         cur₃ u h = m .low (into g b + u) (omega arith) ∙ else₂ (into g b + u) (omega (arith, a .low)) (omega (arith, k-low))
@@ -259,7 +230,7 @@ module _ {g : Graph} {b r : ℕ} where
             long = omega (arith, st .long, long₂, m .long);
             over = st .over;
             fits = st .fits;
-            owned = owned₃;
+            owned = owned-alone (col b w) (col b w₃) (st .tables .valid) (omega (arith, st .over)) (st .owned) (λ u h. ⊎-elim (λ t. inl t) (λ t. inr (t .1, t .2)) (went₃ u h));
             side = side₃;
             cover = cover₃;
           };
@@ -269,7 +240,7 @@ module _ {g : Graph} {b r : ℕ} where
             cur₃ u h ∙ else₁ (into g b + u) (λ q. o (let z : u ≡ v = omega arith in rw z live)),
           );
           more = m .more;
-          front = λ i h. m .front i h ∙ else₂ (b + 8 * g .n + 2 + i) (omega (arith, a .low)) (omega (arith, k-low)) ∙ else₁ (b + 8 * g .n + 2 + i) (omega (arith, a .low));
+          front = λ i h. m .front i h ∙ else₂ (seedsAt (g .n) b + i) (omega (arith, a .low)) (omega (arith, k-low)) ∙ else₁ (seedsAt (g .n) b + i) (omega (arith, a .low));
           fresh = m .fresh;
           each = λ u h. ⊎-elim (λ t. inl (t ∙ flag₂ u h)) (λ t. inr (t .2)) (m .each u h);
           room = omega (arith, m .moved, less-free);

@@ -8,7 +8,7 @@ use mathlib.Core.Bool.{Bool, true, false, cond, _&&_}
 use mathlib.Core.List.{List}
 use lib.ListN.{getD}
 use lib.Dec.{T, eqb, eqb→eq}
-use Rattle.graph.specs.Graph.{Graph, Part, Valid, rev, stay, edges}
+use Rattle.graph.specs.Graph.{Graph, Valid, rev, stay, edges}
 use Rattle.graph.specs.Parts.{Fwd, Alone, only}
 use Rattle.graph.specs.Numbers.{many}
 use Rattle.graph.proofs.Tests.{and-l, eq-T}
@@ -17,21 +17,19 @@ use Rattle.graph.proofs.Chains.{chain-last, valid-rev, same-low, reach-wider}
 use Rattle.graph.proofs.Decompose.{fwd-covers}
 use Rattle.index.specs.Index.{first}
 use Rattle.index.proofs.Counts.{start-mono}
-use Rattle.paint.specs.Colours.{col, paint, Hit}
+use Rattle.memory.specs.Decomposer.{col, flag, seed, chainsAt, marksAt}
+use Rattle.memory.proofs.Memory.{touched-more, touched-none}
+use Rattle.paint.specs.Colours.{paint, Hit}
 use Rattle.paint.specs.Paint.{StartAsk, Searched}
 use Rattle.paint.proofs.Painting.{paint-first, paint-still, paint-opens}
 use Rattle.paint.proofs.Components.{fwd-low, search-whole}
-use Rattle.trim.specs.Cursor.{cur, Side}
-use Rattle.parts.specs.State.{Tables, Owned}
-use Rattle.slices.specs.Seeds.{flag, seed, Rest, Seeds, unmarked, MarkAsk, Mark, Marked}
+use Rattle.prune.specs.Cursor.{cur, Side}
+use Rattle.split.specs.State.{Tables, Owned, held}
+use Rattle.split.proofs.Same.{tables-kept, top-le}
+use Rattle.slices.specs.Seeds.{Rest, Seeds, unmarked, MarkAsk, Mark, Marked}
 use Rattle.slices.specs.Peel.{into, Peeled, PassAsk}
-use Rattle.slices.specs.Slice.{Listed, CutAsk, Cut, CutsAsk, Cuts, Done, held, SliceAsk, Sliced}
+use Rattle.slices.specs.Slice.{Listed, CutAsk, Cut, CutsAsk, Cuts, Done, SliceAsk, Sliced}
 use Rattle.slices.proofs.Marking.{mark-step}
-use Rattle.graph.specs.Sets.{bit}
-use borrow.Author.Tests.{ne-eqb}
-use Rattle.parts.specs.Drawn.{Marks, EraseAsk, Erased}
-use Rattle.parts.proofs.Splitting.{tables-kept}
-use Rattle.slices.proofs.Peeling.{inside-none, inside-more}
 
 -- THE LOOP
 module _ {g : Graph} {b r top : ℕ} {w : List ℕ} (a : CutsAsk g b r top w) where
@@ -43,7 +41,7 @@ module _ {g : Graph} {b r top : ℕ} {w : List ℕ} (a : CutsAsk g b r top w) wh
     least = omega arith;
     most = omega arith;
     room = omega arith;
-    inside = inside-none (g .n) b w;
+    inside = touched-none (g .n) b _ w;
   }
 
   module _ {l e s : ℕ} {x : List ℕ} (z : Cuts g b r top w l e s x) (h : l < e) where
@@ -102,7 +100,7 @@ module _ {g : Graph} {b r top : ℕ} {w : List ℕ} (a : CutsAsk g b r top w) wh
         least = omega (arith, z .least);
         most = omega (arith, z .most, p .more, h);
         room = omega (arith, d .room, p .room, z .room);
-        inside = inside-more (z .inside) (inside-more (p .inside) (d .inside));
+        inside = touched-more (z .inside) (touched-more (p .inside) (d .inside));
       }
 
   pub cuts-all : {l e s : ℕ} {x : List ℕ} → Cuts g b r top w l e s x → e ≤ l → Done g b r top w x s
@@ -131,35 +129,32 @@ many-apart f h k (suc n) p q = go (f n) (h n) (k n) (p n (omega arith)) (q n (om
 -- THE PIVOT
 module _ {g : Graph} {b p q top r : ℕ} {w : List ℕ} (a : SliceAsk g b p q top w) (rest : r ≡ 5 * g .n + 5) where
   ok : Valid g
-  ok = a .tables .valid
+  ok = a .ask .stage .tables .valid
 
   q-top : q < top
-  q-top = omega (arith, a .owned .below p (a .start), a .live)
+  q-top = omega (arith, a .ask .stage .owned .below p (a .ask .start), a .ask .live)
 
   q-r : q < r
-  q-r = omega (arith, q-top, a .room, rest)
+  q-r = omega (arith, q-top, top-le (a .ask .stage), rest)
 
   -- what a column of labels, parts and slices holds is below r
   under-r : (v : ℕ) → v < g .n → col b w v < r
-  under-r v h = omega (arith, a .owned .below v h, a .room, rest)
+  under-r v h = omega (arith, a .ask .stage .owned .below v h, top-le (a .ask .stage), rest)
 
   pub slice-start : StartAsk g (paint q r q r) 0 b p w
   slice-start = record {
     ask = record {
-      laid = record { valid = ok; few = a .tables .few; below = omega (arith, a .tables .below); index = a .tables .fwd };
-      small = a .tables .small;
-      fits = omega (arith, a .long);
+      laid = record { valid = ok; few = a .ask .stage .tables .few; below = omega (arith, a .ask .stage .tables .below); index = a .ask .stage .tables .fwd };
+      small = a .ask .stage .tables .small;
+      fits = omega (arith, a .ask .stage .long);
       still = paint-still q r q r (omega (arith, q-r)) (omega (arith, q-r)) (omega (arith, q-r)) (omega (arith, q-r));
     };
-    start = a .start;
+    start = a .ask .start;
   }
 
   module _ {w₁ : List ℕ} {k seen : ℕ} (f : Searched g (paint q r q r) b (only p) w w₁ k seen) where
-    abbrev A : Part
-    A v = (v < g .n) × (col b w v ≡ q)
-
     low-p : (v : ℕ) → only p v → v < g .n
-    low-p v e = rw (← e) (a .start)
+    low-p v e = rw (← e) (a .ask .start)
 
     hit-F : (v : ℕ) → Hit g (paint q r q r) b (only p) w v → Fwd g (λ v. (v < g .n) × (col b w v ≡ q)) (only p) v
     hit-F = fwd-low ok low-p (λ v h o. (h, ⊎-elim (λ t. t) (λ t. t) (paint-opens q r q r (col b w v) o)))
@@ -178,14 +173,14 @@ module _ {g : Graph} {b p q top r : ℕ} {w : List ℕ} (a : SliceAsk g b p q to
     was v h e = ⊎-elim (λ t. (t .0, t .1)) (λ t. absurd (omega (arith, t .1, e, under-r v h))) (one v h)
 
     p-in : col b w₁ p ≡ r
-    p-in = ⊎-elim (λ t. t .2) (λ t. absurd (t .0 (p, refl, (zero, stay (a .start, a .live))))) (one p (a .start))
+    p-in = ⊎-elim (λ t. t .2) (λ t. absurd (t .0 (p, refl, (zero, stay (a .ask .start, a .ask .live))))) (one p (a .ask .start))
 
-    same : (j : ℕ) → (j < b) ⊎ (b + 2 * g .n ≤ j) → getD w₁ j 0 ≡ getD w j 0
+    same : (j : ℕ) → (j < b) ⊎ (chainsAt (g .n) b ≤ j) → getD w₁ j 0 ≡ getD w j 0
     same j (inl h) = f .kept .low j h
     same j (inr h) = f .kept .high j (omega arith)
 
     flag-p : flag (g .n) b w₁ p ≡ 0
-    flag-p = same (b + 7 * g .n + 2 + p) (inr (omega arith)) ∙ a .untouched p (a .start) (a .live) .0
+    flag-p = same (marksAt (g .n) b + p) (inr (omega arith)) ∙ a .untouched p (a .ask .start) (a .ask .live) .0
 
     room₁ : unmarked (g .n) b r w₁ + held (g .n) b q w₁ ≤ held (g .n) b q w
     room₁ = many-apart (λ u. eqb (col b w₁ u) r && eqb (flag (g .n) b w₁ u) 0) (λ u. eqb (col b w₁ u) q) (λ u. eqb (col b w u) q) (g .n)
@@ -198,7 +193,7 @@ module _ {g : Graph} {b p q top r : ℕ} {w : List ℕ} (a : SliceAsk g b p q to
     few₁ = many-le (λ u. eqb (col b w₁ u) r && eqb (flag (g .n) b w₁ u) 0) (g .n)
 
     pub slice-mark : MarkAsk (g .n) b p r 0 w₁
-    slice-mark = record { low = a .start; small = a .tables .small; long = omega (arith, a .long, f .kept .long); room = λ h t. omega (arith, a .start) }
+    slice-mark = record { low = a .ask .start; small = a .ask .stage .tables .small; long = omega (arith, a .ask .stage .long, f .kept .long); room = λ h t. omega (arith, a .ask .start) }
 
     module _ {w₂ : List ℕ} {e₁ : ℕ} (mk : Mark (g .n) b p r 0 w₁ w₂ e₁) where
       m : Marked (g .n) b r w₁ 0 w₂ e₁ (λ v. v ≡ p)
@@ -212,9 +207,9 @@ module _ {g : Graph} {b p q top r : ℕ} {w : List ℕ} (a : SliceAsk g b p q to
 
       owned₂ : Owned g (col b w₂) (suc r)
       owned₂ = record {
-        whole = λ u v h s. col₂ u h ∙ search-whole f ok low-p (a .owned .whole) u v h s ∙ sym (col₂ v (same-low ok s h));
-        right = λ v h t. ⊎-elim (λ y. absurd (omega (arith, col₂ v h, y .2, t, q-r, a .part)))
-            (λ y. let e = col₂ v h ∙ y .1 in rw e (a .owned .right v h (rw e at t))) (one v h);
+        whole = λ u v h s. col₂ u h ∙ search-whole f ok low-p (a .ask .stage .owned .whole) u v h s ∙ sym (col₂ v (same-low ok s h));
+        right = λ v h t. ⊎-elim (λ y. absurd (omega (arith, col₂ v h, y .2, t, q-r, a .ask .part)))
+            (λ y. let e = col₂ v h ∙ y .1 in rw e (a .ask .stage .owned .right v h (rw e at t))) (one v h);
         below = λ v h. ⊎-elim (λ y. omega (arith, col₂ v h, y .2)) (λ y. omega (arith, col₂ v h, y .1, under-r v h)) (one v h);
       }
 
@@ -225,14 +220,14 @@ module _ {g : Graph} {b p q top r : ℕ} {w : List ℕ} (a : SliceAsk g b p q to
       low₂ j h = m .low j (omega arith) ∙ same j (inl h)
 
       tables₂ : Tables g b w₂
-      tables₂ = tables-kept g b w w₂ low₂ (a .tables)
+      tables₂ = tables-kept g b w w₂ low₂ (a .ask .stage .tables)
 
       begins : (v : ℕ) → v < g .n → col b w₂ v ≡ r → cur (into g b) w₂ v ≡ first (rev g) v
       begins v h c = cur₂ v h ∙ a .untouched v h (was v h (sym (col₂ v h) ∙ c) .1) .1
 
       side₂ : Side (rev g) (g .n + 1 + edges g) (into g b) b r w₂
       side₂ = record {
-        laid = record { valid = valid-rev ok; few = a .tables .few; below = omega (arith, a .tables .below); index = tables₂ .bwd };
+        laid = record { valid = valid-rev ok; few = a .ask .stage .tables .few; below = omega (arith, a .ask .stage .tables .below); index = tables₂ .bwd };
         cursors = record {
           least = λ v h c. omega (arith, begins v h c);
           most = λ v h c. omega (arith, begins v h c, start-mono (g .counted) (g .tgt) (edges g) v (suc v) (omega arith));
@@ -241,7 +236,7 @@ module _ {g : Graph} {b p q top r : ℕ} {w : List ℕ} (a : SliceAsk g b p q to
       }
 
       seed-p : Seeds (g .n) b r w₂ p
-      seed-p = (a .start, col₂ p (a .start) ∙ p-in, m .done p (a .start) refl p-in)
+      seed-p = (a .ask .start, col₂ p (a .ask .start) ∙ p-in, m .done p (a .ask .start) refl p-in)
 
       cover₂ : (v : ℕ) → Rest (g .n) b r w₂ v → Fwd g (Rest (g .n) b r w₂) (Seeds (g .n) b r w₂) v
       cover₂ v (h, c) =
@@ -255,9 +250,9 @@ module _ {g : Graph} {b p q top r : ℕ} {w : List ℕ} (a : SliceAsk g b p q to
         listing = record {
           standing = record {
             tables = tables₂;
-            long = omega (arith, a .long, m .long, f .kept .long);
+            long = omega (arith, a .ask .stage .long, m .long, f .kept .long);
             over = omega (arith, rest);
-            fits = omega (arith, rest, a .tables .small);
+            fits = omega (arith, rest, a .ask .stage .tables .small);
             owned = owned₂;
             side = side₂;
             cover = cover₂;
@@ -266,11 +261,11 @@ module _ {g : Graph} {b p q top r : ℕ} {w : List ℕ} (a : SliceAsk g b p q to
           room = omega (arith, m .moved, e-one, few₁);
           member = λ i h. m .fresh i (omega arith) (omega (arith, e-one));
           listed = λ v (h, c, o). ⊎-elim
-              (λ t. absurd (o (t ∙ same (b + 7 * g .n + 2 + v) (inr (omega arith)) ∙ a .untouched v h (was v h (sym (col₂ v h) ∙ c) .1) .0)))
+              (λ t. absurd (o (t ∙ same (marksAt (g .n) b + v) (inr (omega arith)) ∙ a .untouched v h (was v h (sym (col₂ v h) ∙ c) .1) .0)))
               (λ t. let (i, x, y, s) = t .2 in (i, x, omega (arith, y, e-one), s)) (m .each v h);
         };
-        part = omega (arith, a .part, q-top);
-        under = omega (arith, a .room, rest);
+        part = omega (arith, a .ask .part, q-top);
+        under = omega (arith, top-le (a .ask .stage), rest);
       }
 
       module _ {w₃ : List ℕ} {s : ℕ} (d : Done g b r top w₂ w₃ s) where
@@ -286,8 +281,8 @@ module _ {g : Graph} {b p q top r : ℕ} {w : List ℕ} (a : SliceAsk g b p q to
 
         keep : (v : ℕ) → v < g .n → col b w₃ v ≡ q → (col b w v ≡ q) × (col b w₂ v ≡ r → ⊥)
         keep v h c = ⊎-elim
-            (λ t. absurd (⊎-elim (λ y. omega (arith, y .0, c, h, a .part)) (λ y. omega (arith, y .0, c, q-top)) (t .1)))
-            (λ t. (sym t ∙ c, λ e. ⊎-elim (λ y. omega (arith, y, e, c, q-r)) (λ y. ⊎-elim (λ i. omega (arith, i .0, c, h, a .part)) (λ i. omega (arith, i .0, c, q-top)) (y .1)) (z .went v h)))
+            (λ t. absurd (⊎-elim (λ y. omega (arith, y .0, c, h, a .ask .part)) (λ y. omega (arith, y .0, c, q-top)) (t .1)))
+            (λ t. (sym t ∙ c, λ e. ⊎-elim (λ y. omega (arith, y, e, c, q-r)) (λ y. ⊎-elim (λ i. omega (arith, i .0, c, h, a .ask .part)) (λ i. omega (arith, i .0, c, q-top)) (y .1)) (z .went v h)))
             (ends v h)
 
         pub slice-done : Sliced g b p q top w w₃ s
@@ -295,11 +290,11 @@ module _ {g : Graph} {b p q top r : ℕ} {w : List ℕ} (a : SliceAsk g b p q to
           owned = record {
             whole = z .listing .standing .owned .whole;
             right = z .listing .standing .owned .right;
-            below = λ v h. ⊎-elim (λ t. ⊎-elim (λ y. omega (arith, y .0, h, a .part, q-top, z .least)) (λ y. y .1) (t .1)) (λ t. omega (arith, t, a .owned .below v h, z .least)) (ends v h);
+            below = λ v h. ⊎-elim (λ t. ⊎-elim (λ y. omega (arith, y .0, h, a .ask .part, q-top, z .least)) (λ y. y .1) (t .1)) (λ t. omega (arith, t, a .ask .stage .owned .below v h, z .least)) (ends v h);
           };
           others = λ v h o. ⊎-elim (λ t. absurd (o (t .0))) (λ t. t) (ends v h);
           ours = λ v h c. ⊎-elim (λ t. inr (t .1)) (λ t. inl (t ∙ c)) (ends v h);
-          pivot = λ c. keep p (a .start) c .1 (col₂ p (a .start) ∙ p-in);
+          pivot = λ c. keep p (a .ask .start) c .1 (col₂ p (a .ask .start) ∙ p-in);
           least = z .least;
           room = omega (
             arith,
@@ -317,10 +312,10 @@ module _ {g : Graph} {b p q top r : ℕ} {w : List ℕ} (a : SliceAsk g b p q to
               let i = keep v h c in
               let t = z .kept v h (i .1) in
               let u = a .untouched v h (i .0) in (
-                t .0 ∙ ⊎-elim (λ y. y ∙ same (b + 7 * g .n + 2 + v) (inr (omega arith))) (λ y. absurd (i .1 (col₂ v h ∙ y .0))) (m .each v h) ∙ u .0,
+                t .0 ∙ ⊎-elim (λ y. y ∙ same (marksAt (g .n) b + v) (inr (omega arith))) (λ y. absurd (i .1 (col₂ v h ∙ y .0))) (m .each v h) ∙ u .0,
                 t .1 ∙ cur₂ v h ∙ u .1,
               );
-          inside = inside-more (record {
+          inside = touched-more (record {
             low = low₂;
             mid = λ j h y. m .low j (omega arith) ∙ same j (inr h);
             high = λ j h. m .high j h ∙ same j (inr (omega arith));
@@ -328,26 +323,6 @@ module _ {g : Graph} {b p q top r : ℕ} {w : List ℕ} (a : SliceAsk g b p q to
           }) (z .inside);
         }
 
-        -- the set that loses what p reaches is what is left of the part
-        pub slice-marks : {ws ws₁ : List ℕ} {size left : ℕ} → Marks (g .n) b q w ws size → Erased (g .n) b w₁ k ws ws₁ left → Marks (g .n) b q w₃ ws₁ left
-        slice-marks {ws} {ws₁} {size} {left} y er = record {
-          words = er .long ∙ y .words;
-          bits = λ v h. ⊎-elim
-              (λ t. let (i, x, e) = f .listed v h (t .0) in
-              let c : col b w₁ v ≡ r = ⊎-elim (λ o. o .2) (λ o. absurd (o .0 (hit-F v (t .0)))) (one v h) in
-              ap (bit ws₁) (sym e) ∙ er .gone i x ∙ ap (λ (o : Bool). cond o 1 0) (sym (ne-eqb (col b w₃ v) q (λ o. keep v h o .1 (col₂ v h ∙ c)))))
-              (λ t. er .else v (λ i x e. t .0 (rw e at (f .member i x .1))) ∙ y .bits v h
-              ∙ ap (λ (o : ℕ). cond (eqb o q) 1 0) (sym (t .1) ∙ sym (col₂ v h)
-              ∙ ⊎-elim (λ o. sym o) (λ o. absurd (omega (arith, sym (col₂ v h) ∙ o .0, t .1, under-r v h))) (z .went v h)))
-              (f .each v h);
-          size = er .size;
-        }
-
--- what a search has painted is taken out of the set
-pub slice-erase : (r : ℕ) {g : Graph} {b p q top : ℕ} {w w₁ : List ℕ} {k seen : ℕ} → SliceAsk g b p q top w → Searched g (paint q r q r) b (only p) w w₁ k seen
-    → {ws : List ℕ} {size : ℕ} → Marks (g .n) b q w ws size → EraseAsk (g .n) b w₁ k ws size
-slice-erase r a s z = record {
-  queued = record { member = λ i h. s .member i h .0; few = s .few; small = a .tables .small; fits = omega (arith, a .long, s .kept .long) };
-  words = z .words;
-  size = z .size;
-}
+        -- afterwards nothing enters or leaves the part
+        pub slice-rest : (v : ℕ) → v < g .n → (col b w₃ v ≡ col b w₁ v) ⊎ ((col b w₁ v ≡ q → ⊥) × (col b w₃ v ≡ q → ⊥))
+        slice-rest v h = ⊎-elim (λ t. inl (t ∙ col₂ v h)) (λ t. inr (λ e. omega (arith, col₂ v h, t .0, e, q-r), λ e. keep v h e .1 (t .0))) (z .went v h)

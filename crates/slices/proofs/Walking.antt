@@ -11,9 +11,9 @@ use Rattle.graph.specs.Limits.{mostVertices, mostEdges}
 use Rattle.graph.proofs.Chains.{edge-to-low}
 use Rattle.index.specs.Index.{first}
 use Rattle.index.proofs.Counts.{start-all, neighbour, found}
-use Rattle.paint.specs.Colours.{que}
-use Rattle.parts.specs.State.{Tables}
-use Rattle.parts.proofs.Splitting.{tables-kept}
+use Rattle.memory.specs.Decomposer.{que}
+use Rattle.split.specs.State.{Tables}
+use Rattle.split.proofs.Same.{tables-kept}
 use Rattle.slices.specs.Seeds.{MarkAsk, Mark, Marked, Next, NextAsk, Behind, AllAsk}
 use Rattle.slices.proofs.Marking.{marked-none, marked-more, mark-step, free-room}
 

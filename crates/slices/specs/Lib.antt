@@ -1,6 +1,4 @@
 pub mod Seeds
 pub mod Peel
 pub mod Slice
-pub mod Sweep
-pub mod Drawn
-pub mod Divide
+pub mod Prepare

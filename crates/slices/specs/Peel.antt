@@ -3,19 +3,19 @@ use Prim.Native.Nat.{ℕ, suc, _+_, _*_, _≤_, _<_}
 use mathlib.Core.Path.{_≡_}
 use mathlib.Core.List.{List}
 use mathlib.Core.Logic.{_⊎_}
-use lib.ListN.{length, getD}
+use lib.ListN.{length}
 use lib.Dec.{eqb}
 use Rattle.graph.specs.Graph.{Graph, rev, edges}
 use Rattle.graph.specs.Parts.{Fwd, Alone}
 use Rattle.graph.specs.Numbers.{many}
-use Rattle.trim.specs.Cursor.{cur, Side}
-use Rattle.paint.specs.Colours.{col, que}
-use Rattle.parts.specs.State.{Tables, Owned}
-use Rattle.slices.specs.Seeds.{flag, seed, Rest, Seeds, unmarked}
+use Rattle.prune.specs.Cursor.{cur, Side}
+use Rattle.memory.specs.Decomposer.{col, que, flag, seed, enteringAt, Inside}
+use Rattle.split.specs.State.{Tables, Owned}
+use Rattle.slices.specs.Seeds.{Rest, Seeds, unmarked}
 
 -- where the cursors of the edges that enter stand
 abbrev pub into : Graph → ℕ → ℕ
-into g b = b + 6 * g .n + 2
+into g b = enteringAt (g .n) b
 
 -- how many remain
 abbrev pub remaining : ℕ → ℕ → ℕ → List ℕ → ℕ
@@ -30,13 +30,6 @@ pub record Standing (g : Graph) (b r : ℕ) (w : List ℕ) : Type 0 where
   pub owned : Owned g (col b w) (suc r)
   pub side : Side (rev g) (g .n + 1 + edges g) (into g b) b r w
   pub cover : (v : ℕ) → Rest (g .n) b r w v → Fwd g (Rest (g .n) b r w) (Seeds (g .n) b r w) v
-
--- only colours, the queue, entering cursors, marks and the list of seeds may have changed
-pub record Inside (n b : ℕ) (w w' : List ℕ) : Type 0 where
-  pub low : (j : ℕ) → j < b → getD w' j 0 ≡ getD w j 0
-  pub mid : (j : ℕ) → b + 2 * n ≤ j → j < b + 6 * n + 2 → getD w' j 0 ≡ getD w j 0
-  pub high : (j : ℕ) → b + 9 * n + 2 ≤ j → getD w' j 0 ≡ getD w j 0
-  pub long : length w' ≡ length w
 
 -- From w on seeds went as components alone: the list of seeds grew from e to e', what went stands in the queue, from place k to k'.
 pub record Peeled (g : Graph) (b r : ℕ) (w : List ℕ) (e k : ℕ) (w' : List ℕ) (e' k' : ℕ) : Type 0 where

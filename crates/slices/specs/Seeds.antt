@@ -9,16 +9,8 @@ use lib.Dec.{eqb}
 use Rattle.graph.specs.Graph.{Graph, Part, Edge}
 use Rattle.graph.specs.Numbers.{many}
 use Rattle.graph.specs.Limits.{mostVertices}
-use Rattle.paint.specs.Colours.{col, que}
-use Rattle.parts.specs.State.{Tables}
-
--- v's mark, 0 if v never was a seed
-abbrev pub flag : ℕ → ℕ → List ℕ → ℕ → ℕ
-flag n b w v = getD w (b + 7 * n + 2 + v) 0
-
--- what stands at place i of the list of seeds
-abbrev pub seed : ℕ → ℕ → List ℕ → ℕ → ℕ
-seed n b w i = getD w (b + 8 * n + 2 + i) 0
+use Rattle.memory.specs.Decomposer.{col, que, flag, seed, marksAt, orderAt, seedsAt}
+use Rattle.split.specs.State.{Tables}
 
 -- what remains, and the seeds in it
 abbrev pub Rest : ℕ → ℕ → ℕ → List ℕ → Part
@@ -40,7 +32,7 @@ pub record MarkAsk (n b y r e : ℕ) (w : List ℕ) : Type 0 where
 -- y was marked and listed, if it is in what remains and had no mark
 abbrev pub Mark : ℕ → ℕ → ℕ → ℕ → ℕ → List ℕ → List ℕ → ℕ → Type 0
 Mark n b y r e w w' e' =
-    ((col b w y ≡ r) × (flag n b w y ≡ 0) × (w' ≡ set (set w (b + 7 * n + 2 + y) 1) (b + 8 * n + 2 + e) y) × (e' ≡ e + 1))
+    ((col b w y ≡ r) × (flag n b w y ≡ 0) × (w' ≡ set (set w (marksAt n b + y) 1) (seedsAt n b + e) y) × (e' ≡ e + 1))
     ⊎ ((col b w y ≡ r → flag n b w y ≡ 0 → ⊥) × (w' ≡ w) × (e' ≡ e))
 
 -- The list of seeds grew from e to e'; of what remains, all of which Done holds are marked.
@@ -53,8 +45,8 @@ pub record Marked (n b r : ℕ) (w : List ℕ) (e : ℕ) (w' : List ℕ) (e' : �
   pub keeps : (v : ℕ) → v < n → (flag n b w v ≡ 0 → ⊥) → flag n b w' v ≡ 0 → ⊥
   pub done : (v : ℕ) → v < n → Done v → col b w v ≡ r → flag n b w' v ≡ 0 → ⊥
   pub moved : e' + unmarked n b r w' ≡ e + unmarked n b r w
-  pub low : (j : ℕ) → j < b + 7 * n + 2 → getD w' j 0 ≡ getD w j 0
-  pub high : (j : ℕ) → b + 9 * n + 2 ≤ j → getD w' j 0 ≡ getD w j 0
+  pub low : (j : ℕ) → j < marksAt n b → getD w' j 0 ≡ getD w j 0
+  pub high : (j : ℕ) → orderAt n b ≤ j → getD w' j 0 ≡ getD w j 0
   pub long : length w' ≡ length w
 
 -- an edge leads from u to v

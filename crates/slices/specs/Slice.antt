@@ -3,17 +3,15 @@ use Prim.Native.Nat.{ℕ, _+_, _*_, _≤_, _<_}
 use mathlib.Core.Path.{_≡_}
 use mathlib.Core.List.{List}
 use mathlib.Core.Logic.{_⊎_}
-use lib.ListN.{length}
-use lib.Dec.{eqb}
 use Rattle.graph.specs.Graph.{Graph, Part, rev}
 use Rattle.graph.specs.Parts.{Alone}
-use Rattle.graph.specs.Numbers.{many}
 use Rattle.index.specs.Index.{first}
-use Rattle.paint.specs.Colours.{col}
-use Rattle.trim.specs.Cursor.{cur}
-use Rattle.parts.specs.State.{Tables, Owned}
-use Rattle.slices.specs.Seeds.{flag, seed, Seeds, unmarked}
-use Rattle.slices.specs.Peel.{into, Standing, Inside}
+use Rattle.memory.specs.Decomposer.{col, flag, seed, Inside}
+use Rattle.prune.specs.Cursor.{cur}
+use Rattle.split.specs.State.{Owned, held}
+use Rattle.split.specs.Split.{PivotAsk}
+use Rattle.slices.specs.Seeds.{Seeds, unmarked}
+use Rattle.slices.specs.Peel.{into, Standing}
 
 -- v stands in the list of seeds, from place l up to e
 abbrev pub Listed : ℕ → ℕ → List ℕ → ℕ → ℕ → Part
@@ -63,23 +61,17 @@ pub record Done (g : Graph) (b r top : ℕ) (w w' : List ℕ) (s : ℕ) : Type 0
   pub cuts : Cuts g b r top w places seeds s w'
   pub none : (v : ℕ) → v < g .n → col b w' v ≡ r → ⊥
 
--- how many vertices have the colour q
-abbrev pub held : ℕ → ℕ → ℕ → List ℕ → ℕ
-held n b q w = many (λ v. eqb (col b w v) q) n
-
 -- no vertex of the colour q has been looked at
 abbrev pub Untouched : Graph → ℕ → ℕ → List ℕ → Type 0
 Untouched g b q w = (v : ℕ) → v < g .n → col b w v ≡ q → (flag (g .n) b w v ≡ 0) × (cur (into g b) w v ≡ first (rev g) v)
 
--- p is a vertex of the part q; top and all above it are no colours yet
+-- What is left of the part q has not been looked at; for each vertex of it there is room for one colour more.
+pub record Uncut (g : Graph) (b q top : ℕ) (w : List ℕ) : Type 0 where
+  pub room : top + held (g .n) b q w ≤ 2 * g .n + 1
+  pub untouched : Untouched g b q w
+
 pub record SliceAsk (g : Graph) (b p q top : ℕ) (w : List ℕ) : Type 0 where
-  pub tables : Tables g b w
-  pub long : b + 10 * g .n + 2 ≤ length w
-  pub owned : Owned g (col b w) top
-  pub start : p < g .n
-  pub live : col b w p ≡ q
-  pub part : g .n ≤ q
-  pub room : top ≤ 4 * g .n + 4
+  pub ask : PivotAsk g b p q top w
   pub untouched : Untouched g b q w
 
 -- What p reaches in the part q is cut into components alone, which have their labels, and the slices top .. top' - 1.

@@ -2,7 +2,9 @@
 ghost use Rattle.graph.specs.Arrows.{SomeOf, EveryOf};
 ghost use Rattle.slices.specs.Peel.{PeelAsk, Peeled, DrainAsk, PassAsk};
 use crate::seeds;
-use trim::cursor;
+use memory::decomposer::ENTERING;
+use memory::decomposer::SEEDS;
+use prune::cursor;
 
 // How many seeds are listed, and how many vertices have gone.
 pub struct Count {
@@ -27,7 +29,7 @@ fn settle(
     if w[b + v] != r {
         return Count { seeds: e, gone: k };
     }
-    if cursor::advance(n, w, n + 1 + m, b + 6 * n + 2, b, v, r) != 0 {
+    if cursor::advance(n, w, n + 1 + m, b + ENTERING * n + 2, b, v, r) != 0 {
         return Count { seeds: e, gone: k };
     }
     w[b + v] = v as u32;
@@ -94,7 +96,7 @@ fn pass(n: usize, m: usize, w: &mut [u32], b: usize, r: u32, l: usize, e0: usize
     let mut e = e0;
     let mut k = 0;
     while i < e0 {
-        let v = w[b + 8 * n + 2 + i] as usize;
+        let v = w[b + SEEDS * n + 2 + i] as usize;
         let c = settle(n, m, w, b, v, r, e, k);
         e = c.seeds;
         k = c.gone;

@@ -1,6 +1,8 @@
 // Seeds of what remains, which has the colour r: each is marked once, and listed.
 ghost use Rattle.graph.specs.Arrows.{Some, Every};
 ghost use Rattle.slices.specs.Seeds.{MarkAsk, Mark, Marked, Next, NextAsk, Behind, AllAsk};
+use memory::decomposer::MARKS;
+use memory::decomposer::SEEDS;
 
 // y becomes a seed, if it is in what remains and never was one. The new number of seeds.
 pub fn mark(n: usize, w: &mut [u32], b: usize, y: usize, r: u32, e: usize) -> usize
@@ -10,11 +12,11 @@ pub fn mark(n: usize, w: &mut [u32], b: usize, y: usize, r: u32, e: usize) -> us
     if w[b + y] != r {
         return e;
     }
-    if w[b + 7 * n + 2 + y] != 0 {
+    if w[b + MARKS * n + 2 + y] != 0 {
         return e;
     }
-    w[b + 7 * n + 2 + y] = 1;
-    w[b + 8 * n + 2 + e] = y as u32;
+    w[b + MARKS * n + 2 + y] = 1;
+    w[b + SEEDS * n + 2 + e] = y as u32;
     e + 1
 }
 

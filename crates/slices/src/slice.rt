@@ -6,6 +6,7 @@ ghost use Rattle.paint.specs.Paint.{Begun};
 ghost use Rattle.slices.specs.Slice.{Listed, CutAsk, Cut, CutsAsk, Done, SliceAsk, Sliced};
 use crate::peel;
 use crate::seeds;
+use memory::decomposer::SEEDS;
 
 // The seeds at the places l .. e - 1 of the list are painted and put into the queue. The queue's length.
 fn sow(n: usize, w: &mut [u32], b: usize, r: u32, s: u32, l: usize, e: usize) -> usize
@@ -15,7 +16,7 @@ fn sow(n: usize, w: &mut [u32], b: usize, r: u32, s: u32, l: usize, e: usize) ->
     let mut i = l;
     let mut k = 0;
     while i < e {
-        let x = w[b + 8 * n + 2 + i] as usize;
+        let x = w[b + SEEDS * n + 2 + i] as usize;
         k = paint::visit(n, w, b, x, r, s, r, s, k);
         i += 1;
     }

@@ -1,5 +1,8 @@
-use Prim.Native.Nat.{_-_, _+_}
 use native.Mathlib.Omega.{arith}
+use borrow.Author.Needs.{needs}
+use Prim.Native.Nat.{_≤_, _-_, _+_}
+use mathlib.Core.Path.{_≡_, refl}
+use lib.ListN.{length}
 use Rattle.graph.specs.Arrows.{EveryOf}
 use Rattle.slices.specs.Peel.{DrainAsk, Peeled}
 use Rattle.slices.proofs.Peeling.{peeled-none, peeled-more, drain-few, drain-ask}
@@ -7,46 +10,26 @@ use Rattle.slices.proofs.peel.drain.Statement.{statement}
 use Rattle.slices.proofs.peel.drain.Tie as tie
 
 abbrev Inv-loop : tie.InvT-loop
-Inv-loop n m w₀ b r e0 k0 h₀ e₀ k₀ w h e k = EveryOf n m (λ g. DrainAsk g b r e0 k0 w₀ → Peeled g b r w₀ e0 k0 w e k)
+Inv-loop n m w₀ b r e0 k0 h₀ e₀ k₀ w h e k =
+    (length w ≡ length w₀) × EveryOf n m (λ g. DrainAsk g b r e0 k0 w₀ → Peeled g b r w₀ e0 k0 w e k)
 
 abbrev μ-loop : tie.MeasureT-loop
 μ-loop n m w₀ b r e0 k0 h₀ e₀ k₀ w h e k = n - h
 
-loop-holds : tie.Need-loop-holds Inv-loop μ-loop
-loop-holds c = λ g a. peeled-none (a .standing)
+abbrev begins : tie.In-loop Inv-loop μ-loop → tie.Start Inv-loop μ-loop
+begins c = c .before .before .before
 
-add-u : tie.Need-add-u Inv-loop μ-loop
-add-u c = let s = c .before .before .before in let l = c .before .loop in let z = l .inv (s .pre .0) (s .pre .1) in omega (arith, s .pre .1 .standing .long, z .inside .long, s .pre .1 .standing .tables .small, drain-few (s .pre .1) z, c .loop-test .taken)
+abbrev inside : tie.After-settle-next Inv-loop μ-loop → tie.In-loop Inv-loop μ-loop
+inside c = c .before .before .before
 
-add-u-2 : tie.Need-add-u-2 Inv-loop μ-loop
-add-u-2 c = let s = c .before .before .before in let l = c .before .loop in let z = l .inv (s .pre .0) (s .pre .1) in omega (arith, s .pre .1 .standing .long, z .inside .long, s .pre .1 .standing .tables .small, drain-few (s .pre .1) z, c .loop-test .taken)
-
-mul-u : tie.Need-mul-u Inv-loop μ-loop
-mul-u c = let s = c .before .before .before in let l = c .before .loop in let z = l .inv (s .pre .0) (s .pre .1) in omega (arith, s .pre .1 .standing .long, z .inside .long, s .pre .1 .standing .tables .small, drain-few (s .pre .1) z, c .loop-test .taken)
-
-slice-read-u : tie.Need-slice-read-u Inv-loop μ-loop
-slice-read-u c = let s = c .before .before .before .before in let l = c .before .before .loop in let z = l .inv (s .pre .0) (s .pre .1) in omega (arith, s .pre .1 .standing .long, z .inside .long, s .pre .1 .standing .tables .small, drain-few (s .pre .1) z, c .before .loop-test .taken)
-
-cast-u : tie.Need-cast-u Inv-loop μ-loop
-cast-u c = omega (arith, c .slice-known2 .given (c .before .before .before .before .args .b + c .before .before .before .before .args .n + c .before .before .loop .h))
-
-settle-next-requires : tie.Need-settle-next-requires Inv-loop μ-loop
-settle-next-requires c κs = let s = c .before .before .before .before .before in let l = c .before .before .before .loop in (s .pre .0, drain-ask (s .pre .1) (l .inv (s .pre .0) (s .pre .1)) (c .before .before .loop-test .taken))
-
-add-h : tie.Need-add-h Inv-loop μ-loop
-add-h c = let s = c .before .before .before .before .before .before .before .before in let l = c .before .before .before .before .before .before .loop in let z = l .inv (s .pre .0) (s .pre .1) in omega (arith, s .pre .1 .standing .long, z .inside .long, s .pre .1 .standing .tables .small, drain-few (s .pre .1) z, c .before .before .before .before .before .loop-test .taken)
-
-loop-less : tie.Need-loop-less Inv-loop μ-loop
-loop-less c = let s = c .before .before .before .before .before .before .before .before in let l = c .before .before .before .before .before .before .loop in let z = l .inv (s .pre .0) (s .pre .1) in omega (arith, s .pre .1 .standing .long, z .inside .long, s .pre .1 .standing .tables .small, drain-few (s .pre .1) z, c .before .before .before .before .before .loop-test .taken)
+few : (c : tie.In-loop Inv-loop μ-loop) → c .before .loop .k ≤ begins c .args .n
+few c = let s = begins c in drain-few (s .pre .1) (c .before .loop .inv .1 (s .pre .0) (s .pre .1))
 
 loop-again : tie.Need-loop-again Inv-loop μ-loop
-loop-again c = let l = c .before .before .before .before .before .before .loop in let t = c .before .before .before .before .before .loop-test .taken in λ g a. peeled-more (l .inv g a) (c .before .before .settle-next .ensures g (drain-ask a (l .inv g a) t))
-
-same-length : tie.Need-same-length Inv-loop μ-loop
-same-length c = let s = c .before .before .before in c .before .loop .inv (s .pre .0) (s .pre .1) .inside .long
-
-returns : tie.Need-returns Inv-loop μ-loop
-returns c = c .before .loop .inv
+loop-again c =
+    let l = (inside (c .before .before)) .before .loop .inv .1 in
+    let t = (inside (c .before .before)) .loop-test .taken in
+    (search needs, λ g a. peeled-more (l g a) (c .before .before .settle-next .ensures g (drain-ask a (l g a) t)))
 
 pub drain-spec : {M : Type 1} → statement M
 drain-spec =
@@ -54,15 +37,15 @@ drain-spec =
     (tie.spec
     Inv-loop
     μ-loop
-    loop-holds
-    add-u
-    add-u-2
-    mul-u
-    slice-read-u
-    cast-u
-    settle-next-requires
-    add-h
-    loop-less
+    (λ c. (refl, λ g a. peeled-none (a .standing)))
+    (λ c. omega (arith, few c))
+    (λ c. omega (arith, few c))
+    (λ c. omega (arith, few c))
+    (λ c. omega (arith, few (c .before)))
+    (λ c. omega (arith, c .slice-known2 .given ((begins (c .before)) .args .b + (begins (c .before)) .args .n + c .before .before .loop .h)))
+    (λ c κs. let s = begins (c .before .before) in (s .pre .0, drain-ask (s .pre .1) (c .before .before .before .loop .inv .1 (s .pre .0) (s .pre .1)) (c .before .before .loop-test .taken)))
+    (λ c. omega (arith, few (inside (c .before .before)), (inside (c .before .before)) .loop-test .taken))
+    (λ c. omega (arith, few (inside (c .before .before)), (inside (c .before .before)) .loop-test .taken))
     loop-again
-    same-length
-    returns)
+    (λ c. c .before .loop .inv .0)
+    (λ c. c .before .loop .inv .1))

@@ -1,0 +1,4 @@
+pub mod Same
+pub mod Naming
+pub mod Splitting
+pub mod Rings

@@ -1,0 +1,4 @@
+pub mod Taken
+pub mod Sweep
+pub mod Drawn
+pub mod Kind
