@@ -9,7 +9,7 @@ use lib.Dec.{eqb, ltb}
 use borrow.Author.Tests.{ltb-false, eqb-true, not-false}
 use Rattle.graph.specs.Graph.{graph, Valid}
 use Rattle.graph.specs.Limits.{mostVertices, mostEdges, Enough, wrongLength, memoryShort, listShort, unknownChoice}
-use Rattle.graph.specs.Refusal.{given, _or_, tableRefusal, lacking}
+use Rattle.graph.specs.Refusal.{given, tableRefusal, lacking}
 use Rattle.graph.proofs.Refusals.{or-none, given-none, or-left-none, not-lacking, table-passed, passed-valid}
 use Rattle.decompose.specs.Promise.{refusalOf}
 

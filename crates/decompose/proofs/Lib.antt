@@ -3,5 +3,4 @@ pub mod Accepting
 pub mod Starting
 pub mod Promising
 pub mod Unique
-pub mod Own
 pub mod Order

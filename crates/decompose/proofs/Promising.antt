@@ -1,31 +1,30 @@
 -- From the beginning through the turns to the end: the promise.
-use Prim.Native.Nat.{ℕ, _-_, _*_, _≤_, _<_}
+use Prim.Native.Nat.{ℕ, _*_, _≤_, _<_}
 use native.Mathlib.Omega.{arith}
 use native.Mathlib.Decide.{decLt, ℕ-discrete}
 use native.Mathlib.Nat.{not-suc-le-zero}
 use mathlib.Core.Path.{_≡_, refl, sym, ap, subst, _∙_}
 use mathlib.Core.Logic.{_⊎_, inl, inr}
-use mathlib.Core.List.{List}
+use mathlib.Core.List.{List, []}
 use lib.ListN.{length, getD, replicate}
 use lib.Dec.{T, eqb, ltb, leb, eqb→eq, leb→le}
 use Rattle.graph.specs.Graph.{Graph, Valid, IsLabel, graph}
-use Rattle.graph.specs.Arrows.{arrows, EveryOf}
 use Rattle.graph.specs.Numbers.{many}
-use Rattle.graph.specs.Memory.{ClearAsk}
+use Rattle.memory.specs.Memory.{ClearAsk}
 use Rattle.graph.specs.Pivot.{draws}
 use Rattle.graph.specs.Summary.{sharing, summary}
 use Rattle.graph.proofs.Certificate.{right-unique}
-use Rattle.graph.proofs.Memory.{zeroed-after}
+use Rattle.memory.proofs.Memory.{zeroed-after}
 use Rattle.graph.proofs.Counts.{many-le, many-mono, many-place}
-use Rattle.paint.specs.Colours.{col}
-use Rattle.parts.specs.State.{ring, rings}
-use Rattle.parts.specs.Chain.{own, head}
-use Rattle.parts.proofs.Rings.{is-ring}
+use Rattle.memory.specs.Decomposer.{col, own, head}
+use Rattle.split.specs.State.{ring, rings}
+use Rattle.split.proofs.Rings.{is-ring}
 use Rattle.waiting.specs.declared.Part.{Part}
 use Rattle.waiting.specs.Records.{none}
 use Rattle.pivot.specs.declared.chooser.Chooser.{Chooser}
 use Rattle.machine.specs.declared.Machine.{Machine}
 use Rattle.decompose.specs.declared.finish.Answer.{Answer}
+use Rattle.decompose.specs.declared.finish.Answer.the-variants.{Done, Refused}
 use Rattle.machine.specs.Aim.{aim, goes, aimed}
 use Rattle.machine.specs.Machine.{base}
 use Rattle.machine.specs.Waits.{firstOf}
@@ -33,8 +32,8 @@ use Rattle.decompose.specs.Running.{Slicing, Running, Went}
 use Rattle.decompose.specs.Turns.{DriveAsk, Ran, idle, ran, Driven}
 use Rattle.decompose.specs.Begin.{Started, idleWith, firstOne, Begun, refused, nothing, begun}
 use Rattle.decompose.specs.Finish.{Room, FinishAsk, Ended, refusing, doing}
-use Rattle.decompose.specs.Plain.{still, PlainBegun, Plainly}
-use Rattle.decompose.specs.Promise.{refusalOf, call, after, Promise}
+use Rattle.decompose.specs.Plain.{still, Plainly}
+use Rattle.decompose.specs.Promise.{refusalOf, After, call, after, Promise}
 use Rattle.machine.proofs.Waiting.{waits-same}
 use Rattle.machine.proofs.Aiming.{goes-clear, stopped}
 use Rattle.decompose.proofs.Accepting.{Accepted, accepted}
@@ -43,8 +42,8 @@ use Rattle.decompose.proofs.Starting.{rings-begin}
 -- the machine before its first turn
 module _ {n : ℕ} {src tgt : List ℕ} {method order : ℕ} {c : Chooser} {list num wor num' wor' : List ℕ} {lab parts len len' : ℕ}
     (a : Accepted n src tgt method order (c .kind) lab parts len len') (p : 0 < n) (st : Started (graph n src tgt) (c .kind) list num wor num' wor') (e : len ≡ length num) (ys : List Part) (l : n ≤ length ys) where
-  pub begun-running : Running (graph n src tgt) c ys num' wor' (aimed n (firstOne n method order))
-  unfolding goes aim
+  pub begun-running : Running (graph n src tgt) c ys num' wor' (aimed n (firstOne n method order c))
+  unfolding goes aim draws
   begun-running =
       record {
         small = a .small;
@@ -57,38 +56,30 @@ module _ {n : ℕ} {src tgt : List ℕ} {method order : ℕ} {c : Chooser} {list
         early = λ q. refl;
         zeros = λ j h. absurd (not-suc-le-zero h);
         flags = λ i h. absurd (not-suc-le-zero h);
-        whole = elim (ℕ-discrete method 0) as (λ _. (method ≡ 0) ⊎ Slicing n (base (graph n src tgt)) ys num' (aimed n (firstOne n method order))) [
+        whole = elim (ℕ-discrete method 0) as (λ _. (method ≡ 0) ⊎ Slicing n (base (graph n src tgt)) ys num' (aimed n (firstOne n method order c))) [
           | yes q ↦ inl q
           | no q ↦ inr (record { one = omega (arith, a .known-method); alone = refl; whole = st .whole; made = refl })
         ];
-        waits = waits-same (st .waits) (firstOf n (base (graph n src tgt)) ys num' (aimed n (firstOne n method order))) same;
+        waits = waits-same (st .waits) (firstOf n (base (graph n src tgt)) ys num' (aimed n (firstOne n method order c))) same;
         blank = st .blank;
         drawn = λ q. rings-begin (graph n src tgt) (base (graph n src tgt)) num' (st .whole .colours);
         still = λ q. refl;
         most = omega arith;
+        kind = refl;
+        state = refl;
         going = refl;
         reading = refl;
       }
     where
-      same : (i : ℕ) → i < 1 → firstOf n (base (graph n src tgt)) ys num' (aimed n (firstOne n method order)) i ≡ head n (base (graph n src tgt)) num' i
+      same : (i : ℕ) → i < 1 → firstOf n (base (graph n src tgt)) ys num' (aimed n (firstOne n method order c)) i ≡ head n (base (graph n src tgt)) num' i
       same i h = let x : i ≡ 0 = omega arith in rw x refl
 
 -- the drive may begin
-begun-asks : {n : ℕ} {src tgt : List ℕ} {method order : ℕ} {c : Chooser} {list : List ℕ} {lab : ℕ} {num wor num' wor' : List ℕ} {s : Machine} (ys : List Part)
-    → Begun n src tgt method order c list (length ys) lab num wor num' wor' s → DriveAsk (graph n src tgt) c ys num' wor' s
-begun-asks ys (refused h) = record { ready = λ g. absurd (not-suc-le-zero g) }
-begun-asks ys (nothing z e) = record { ready = λ g. absurd (not-suc-le-zero g) }
-begun-asks ys (begun z p st) = let a = accepted z in record { ready = λ g. begun-running a p st refl ys (a .waiting) }
-
-module _ {n : ℕ} {src tgt : List ℕ} {method order : ℕ} {c x c₁ : Chooser} {list : List ℕ} {lab : ℕ} {num wor num₁ wor₁ : List ℕ} {s : Machine} {ys : List Part}
-    (q : (x ≡ c) × (c₁ ≡ c)) (b : Begun n src tgt method order x list (length ys) lab num wor num₁ wor₁ s) where
-  pub begun-drive : DriveAsk (graph n src tgt) c₁ ys num₁ wor₁ s
-  begun-drive = subst (λ (y : Chooser). DriveAsk (graph n src tgt) y ys num₁ wor₁ s) (q .0 ∙ sym (q .1)) (begun-asks ys b)
-
-  -- what it promises of every table with so many edges, of this one
-  pub begun-driven : {c₂ : Chooser} {ys₂ : List Part} {num₂ wor₂ : List ℕ} {e : Machine}
-      → EveryOf n (length src) (λ g. DriveAsk g c₁ ys num₁ wor₁ s → Driven g c₁ ys num₁ wor₁ s c₂ ys₂ num₂ wor₂ e) → Driven (graph n src tgt) c₁ ys num₁ wor₁ s c₂ ys₂ num₂ wor₂ e
-  begun-driven d = d (arrows (graph n src tgt)) begun-drive
+pub begun-drive : {n : ℕ} {src tgt : List ℕ} {method order : ℕ} {c : Chooser} {list : List ℕ} {lab : ℕ} {num wor num' wor' : List ℕ} {s : Machine} {ys : List Part}
+    → Begun n src tgt method order c list (length ys) lab num wor num' wor' s → DriveAsk (graph n src tgt) ys num' wor' s
+begun-drive (refused h) = record { ready = λ g. absurd (not-suc-le-zero g) }
+begun-drive (nothing z e) = record { ready = λ g. absurd (not-suc-le-zero g) }
+begun-drive {ys = ys} (begun z p st) = let a = accepted z in record { ready = λ g. begun-running a p st refl ys (a .waiting) }
 
 -- the lengths of lent memory stay, and so does the refusal
 pub record Lengths (num wor num' wor' : List ℕ) (s e : Machine) : Type 0 where
@@ -96,7 +87,7 @@ pub record Lengths (num wor num' wor' : List ℕ) (s e : Machine) : Type 0 where
   pub words : length wor' ≡ length wor
   pub refusal : e .refusal ≡ s .refusal
 
-ran-lengths : {g : Graph} {c c' : Chooser} {ys ys' : List Part} {num wor num' wor' : List ℕ} {s e : Machine} → Ran g c ys num wor s c' ys' num' wor' e → Lengths num wor num' wor' s e
+ran-lengths : {g : Graph} {ys ys' : List Part} {num wor num' wor' : List ℕ} {s e : Machine} → Ran g ys num wor s ys' num' wor' e → Lengths num wor num' wor' s e
 ran-lengths (idle z) = record { numbers = refl; words = refl; refusal = refl }
 ran-lengths (ran p r w) = record { numbers = w .numbers-long; words = w .words-long; refusal = w .refusal }
 
@@ -122,8 +113,8 @@ ended-ask : {n m : ℕ} {lab num wor num₁ wor₁ num₂ wor₂ : List ℕ} {s 
 ended-ask a x =
     record { room = λ z. let r = a .room (sym (x .refusal) ∙ z) in record { label = r .label; memory = clear-same (r .memory) (x .numbers) (x .words) } }
 
-pub driven-finish : {n : ℕ} {src tgt : List ℕ} {method order : ℕ} {c : Chooser} {list lab : List ℕ} {num wor num₁ wor₁ num₂ wor₂ : List ℕ} {s e : Machine} {c₁ c₂ : Chooser} {ys ys₁ : List Part}
-    → Begun n src tgt method order c list (length ys) (length lab) num wor num₁ wor₁ s → Driven (graph n src tgt) c₁ ys num₁ wor₁ s c₂ ys₁ num₂ wor₂ e → FinishAsk n (length src) lab num₂ wor₂ e
+pub driven-finish : {n : ℕ} {src tgt : List ℕ} {method order : ℕ} {c : Chooser} {list lab : List ℕ} {num wor num₁ wor₁ num₂ wor₂ : List ℕ} {s e : Machine} {ys ys₁ : List Part}
+    → Begun n src tgt method order c list (length ys) (length lab) num wor num₁ wor₁ s → Driven (graph n src tgt) ys num₁ wor₁ s ys₁ num₂ wor₂ e → FinishAsk n (length src) lab num₂ wor₂ e
 driven-finish b d = ended-ask (accepting b) (ran-lengths (d .run))
 
 -- nothing waits: every colour is a label
@@ -179,14 +170,14 @@ module _ {g : Graph} {c : Chooser} {ys : List Part} {num wor : List ℕ} {e : Ma
 -- refused
 refused-met : {n : ℕ} {src tgt : List ℕ} {method order : ℕ} {c : Chooser} {list lab : List ℕ} {num wor : List ℕ} {ys : List Part} {lab₃ num₃ wor₃ : List ℕ} {a : Answer} (k : ℕ)
     → k ≡ refusalOf n src tgt method order (c .kind) (length lab) (length ys) (length num) (length wor) → (k ≡ 0 → ⊥)
-    → Ended n (length src) lab num wor (idleWith k) lab₃ num₃ wor₃ a → Promise (call n src tgt method order c list ys lab num wor) (after c ys lab₃ num₃ wor₃) a
+    → Ended n (length src) lab num wor (idleWith k c) lab₃ num₃ wor₃ a → Promise (call n src tgt method order c list ys lab num wor) (after c ys lab₃ num₃ wor₃) a
 refused-met k e h (refusing x) = record { refusal = e; gives = record { refused = h; chooser = refl; waiting = refl; label = refl; numbers = refl; words = refl } }
 refused-met k e h (doing x cp z) = absurd (h x)
 
 -- no vertex
 nothing-met : {n : ℕ} {src tgt : List ℕ} {method order : ℕ} {c : Chooser} {list lab : List ℕ} {num wor : List ℕ} {ys : List Part} {lab₃ num₃ wor₃ : List ℕ} {a : Answer}
     → refusalOf n src tgt method order (c .kind) (length lab) (length ys) (length num) (length wor) ≡ 0 → n ≡ 0
-    → Ended n (length src) lab num wor (idleWith 0) lab₃ num₃ wor₃ a → Promise (call n src tgt method order c list ys lab num wor) (after c ys lab₃ num₃ wor₃) a
+    → Ended n (length src) lab num wor (idleWith 0 c) lab₃ num₃ wor₃ a → Promise (call n src tgt method order c list ys lab num wor) (after c ys lab₃ num₃ wor₃) a
 unfolding draws summary
 nothing-met q e (refusing x) = absurd (x refl)
 nothing-met {n} {lab₃ = lab₃} q e (doing x cp z) =
@@ -207,68 +198,58 @@ nothing-met {n} {lab₃ = lab₃} q e (doing x cp z) =
     }
 
 -- the machine ran
-ran-met : {n : ℕ} {src tgt : List ℕ} {method order : ℕ} {c : Chooser} {list lab : List ℕ} {num wor num₁ wor₁ num₂ wor₂ : List ℕ} {e : Machine} {c₂ : Chooser} {ys ys₂ : List Part} {lab₃ num₃ wor₃ : List ℕ} {a : Answer}
+ran-met : {n : ℕ} {src tgt : List ℕ} {method order : ℕ} {c : Chooser} {list lab : List ℕ} {num wor num₁ wor₁ num₂ wor₂ : List ℕ} {e : Machine} {ys ys₂ : List Part} {lab₃ num₃ wor₃ : List ℕ} {a : Answer}
     → refusalOf n src tgt method order (c .kind) (length lab) (length ys) (length num) (length wor) ≡ 0 → Started (graph n src tgt) (c .kind) list num wor num₁ wor₁
-    → Running (graph n src tgt) c₂ ys₂ num₂ wor₂ e → Went n (length src) c ys num₁ wor₁ (aimed n (firstOne n method order)) c₂ ys₂ num₂ wor₂ e → e .go ≡ 0
-    → Ended n (length src) lab num₂ wor₂ e lab₃ num₃ wor₃ a → Promise (call n src tgt method order c list ys lab num wor) (after c₂ ys₂ lab₃ num₃ wor₃) a
+    → Running (graph n src tgt) c ys₂ num₂ wor₂ e → Went n (length src) ys num₁ wor₁ (aimed n (firstOne n method order c)) ys₂ num₂ wor₂ e → e .go ≡ 0
+    → Ended n (length src) lab num₂ wor₂ e lab₃ num₃ wor₃ a → Promise (call n src tgt method order c list ys lab num wor) (after (e .chooser) ys₂ lab₃ num₃ wor₃) a
 ran-met q st r w d (refusing x) = absurd (x (w .refusal))
-ran-met {n} {src} {tgt} {c = c} {num₂ = num₂} {e = e} {lab₃ = lab₃} q st r w d (doing x cp z) =
+ran-met {n} {src} {tgt} {c = c} {num₂ = num₂} {lab₃ = lab₃} q st r w d (doing x cp z) =
     let k = accepted q in
-    let all-draws : e .made - 0 ≡ e .made = omega arith in
     let copied : (v : ℕ) → v < n → getD lab₃ v 0 ≡ col (base (graph n src tgt)) num₂ v = λ v l. cp .each v (omega (arith, k .label)) in
     record {
       refusal = sym q;
       gives = record {
         label = right-unique (k .valid) lab₃ (cp .long ∙ k .label) (λ v l. rw (copied v l) (ended-label r d (k .valid) v l));
-        never = λ z. r .still (λ y. z (sym (w .kind) ∙ y));
-        least = λ z. omega (arith, r .drawn (w .kind ∙ z), ended-rings r d (k .valid) lab₃ (cp .long ∙ k .label) copied);
+        never = r .still;
+        least = λ z. omega (arith, r .drawn z, ended-rings r d (k .valid) lab₃ (cp .long ∙ k .label) copied);
         most = ended-most r d (k .valid);
-        state = w .state ∙ ap (λ (i : ℕ). draws i (c .state)) all-draws;
-        kind = w .kind;
+        state = r .state;
+        kind = r .kind;
         waiting = record { long = w .long; front = ended-none r d (k .valid); rest = w .list };
         numbers = zeroed-after (w .numbers-long ∙ st .long) (λ j h. w .numbers j h ∙ st .beyond j h) (z .numbers-zero);
         words = zeroed-after (w .words-long ∙ st .words-long) (λ j h. w .words j h ∙ st .words j h) (z .words-zero);
       };
     }
 
-met : {n : ℕ} {src tgt : List ℕ} {method order : ℕ} {c : Chooser} {list lab : List ℕ} {num wor num₁ wor₁ num₂ wor₂ : List ℕ} {s e : Machine} {c₂ : Chooser} {ys ys₂ : List Part} {lab₃ num₃ wor₃ : List ℕ} {a : Answer}
-    → Begun n src tgt method order c list (length ys) (length lab) num wor num₁ wor₁ s → Ran (graph n src tgt) c ys num₁ wor₁ s c₂ ys₂ num₂ wor₂ e → e .go ≡ 0
-    → Ended n (length src) lab num₂ wor₂ e lab₃ num₃ wor₃ a → Promise (call n src tgt method order c list ys lab num wor) (after c₂ ys₂ lab₃ num₃ wor₃) a
+met : {n : ℕ} {src tgt : List ℕ} {method order : ℕ} {c : Chooser} {list lab : List ℕ} {num wor num₁ wor₁ num₂ wor₂ : List ℕ} {s e : Machine} {ys ys₂ : List Part} {lab₃ num₃ wor₃ : List ℕ} {a : Answer}
+    → Begun n src tgt method order c list (length ys) (length lab) num wor num₁ wor₁ s → Ran (graph n src tgt) ys num₁ wor₁ s ys₂ num₂ wor₂ e → e .go ≡ 0
+    → Ended n (length src) lab num₂ wor₂ e lab₃ num₃ wor₃ a → Promise (call n src tgt method order c list ys lab num wor) (after (e .chooser) ys₂ lab₃ num₃ wor₃) a
 met {n} {src} {tgt} {method} {order} {c} {lab = lab} {num = num} {wor = wor} {ys = ys} (refused h) (idle z) d f = refused-met (refusalOf n src tgt method order (c .kind) (length lab) (length ys) (length num) (length wor)) refl h f
 met (refused h) (ran p r w) d f = absurd (not-suc-le-zero p)
 met (nothing q e) (idle z) d f = nothing-met q e f
 met (nothing q e) (ran p r w) d f = absurd (not-suc-le-zero p)
-met {n} {method = method} {order = order} (begun q p st) (idle z) d f = absurd (omega (arith, goes-clear n (firstOne n method order) p))
+met {n} {method = method} {order = order} {c = c} (begun q p st) (idle z) d f = absurd (omega (arith, goes-clear n (firstOne n method order c) p))
 met (begun q p st) (ran x r w) d f = ran-met q st r w d f
 
--- the calls of the decomposer, one after the other
-pub promised : {n : ℕ} {src tgt : List ℕ} {method order : ℕ} {c x c₁ c₂ : Chooser} {list lab : List ℕ} {num wor num₁ wor₁ num₂ wor₂ : List ℕ} {s e : Machine} {ys ys₂ : List Part} {lab₃ num₃ wor₃ : List ℕ} {a : Answer}
-    → (x ≡ c) × (c₁ ≡ c) → Begun n src tgt method order x list (length ys) (length lab) num wor num₁ wor₁ s → Driven (graph n src tgt) c₁ ys num₁ wor₁ s c₂ ys₂ num₂ wor₂ e
+-- the calls of the decomposer, one after the other: the chooser is copied, and put back as the machine leaves it
+pub promised : {n : ℕ} {src tgt : List ℕ} {method order : ℕ} {c x c₂ : Chooser} {list lab : List ℕ} {num wor num₁ wor₁ num₂ wor₂ : List ℕ} {s e : Machine} {ys ys₂ : List Part} {lab₃ num₃ wor₃ : List ℕ} {a : Answer}
+    → x ≡ c → Begun n src tgt method order x list (length ys) (length lab) num wor num₁ wor₁ s → Driven (graph n src tgt) ys num₁ wor₁ s ys₂ num₂ wor₂ e → c₂ ≡ e .chooser
     → Ended n (length src) lab num₂ wor₂ e lab₃ num₃ wor₃ a → Promise (call n src tgt method order c list ys lab num wor) (after c₂ ys₂ lab₃ num₃ wor₃) a
-promised {n} {src} {tgt} {method} {order} {c} {x} {c₁} {c₂} {list} {lab} {num} {wor} {num₁} {wor₁} {num₂} {wor₂} {s} {e} {ys} {ys₂} q b d f =
-    met (subst (λ (y : Chooser). Begun n src tgt method order y list (length ys) (length lab) num wor num₁ wor₁ s) (q .0) b)
-    (subst (λ (y : Chooser). Ran (graph n src tgt) y ys num₁ wor₁ s c₂ ys₂ num₂ wor₂ e) (q .1) (d .run)) (d .done) f
+promised {n} {src} {tgt} {method} {order} {list = list} {lab} {num} {wor} {num₁} {wor₁} {s = s} {ys = ys} {ys₂} {lab₃} {num₃} {wor₃} {a} q b d p f =
+    rw p (met (subst (λ (y : Chooser). Begun n src tgt method order y list (length ys) (length lab) num wor num₁ wor₁ s) q b) (d .run) (d .done) f)
 
--- the same for a list and a chooser of one's own
-module _ {n : ℕ} {src tgt : List ℕ} {lab : ℕ} {num wor num₁ wor₁ : List ℕ} {s : Machine} {ys : List Part} (q : ys ≡ replicate 512 none) (b : PlainBegun n src tgt lab num wor num₁ wor₁ s) where
-  pub plain-drive : DriveAsk (graph n src tgt) still ys num₁ wor₁ s
-  plain-drive = subst (λ (l : List Part). DriveAsk (graph n src tgt) still l num₁ wor₁ s) (sym q) (begun-asks (replicate 512 none) b)
-
-  pub plain-driven : {c₂ : Chooser} {ys₂ : List Part} {num₂ wor₂ : List ℕ} {e : Machine}
-      → EveryOf n (length src) (λ g. DriveAsk g still ys num₁ wor₁ s → Driven g still ys num₁ wor₁ s c₂ ys₂ num₂ wor₂ e) → Driven (graph n src tgt) still ys num₁ wor₁ s c₂ ys₂ num₂ wor₂ e
-  plain-driven d = d (arrows (graph n src tgt)) plain-drive
-
-pub plain-finish : {n : ℕ} {src tgt lab : List ℕ} {num wor num₁ wor₁ num₂ wor₂ : List ℕ} {s e : Machine} {c₂ : Chooser} {ys ys₁ : List Part}
-    → PlainBegun n src tgt (length lab) num wor num₁ wor₁ s → Driven (graph n src tgt) still ys num₁ wor₁ s c₂ ys₁ num₂ wor₂ e → FinishAsk n (length src) lab num₂ wor₂ e
-plain-finish {n} {src} {tgt} {lab} {num} {wor} {num₁} {wor₁} {num₂} {wor₂} {s} {e} {c₂} {ys} {ys₁} b d =
-    ended-ask (accepting b) (ran-lengths (d .run))
-
-pub plainly : {n : ℕ} {src tgt lab : List ℕ} {num wor num₁ wor₁ num₂ wor₂ : List ℕ} {s e : Machine} {c₂ : Chooser} {ys ys₂ : List Part} {lab₃ num₃ wor₃ : List ℕ} {a : Answer}
-    → ys ≡ replicate 512 none → PlainBegun n src tgt (length lab) num wor num₁ wor₁ s → Driven (graph n src tgt) still ys num₁ wor₁ s c₂ ys₂ num₂ wor₂ e
-    → Ended n (length src) lab num₂ wor₂ e lab₃ num₃ wor₃ a → Plainly n src tgt lab num wor lab₃ num₃ wor₃ a
-plainly {n} {src} {tgt} {lab} {num} {wor} {num₁} {wor₁} {num₂} {wor₂} {s} {e} {c₂} {ys} {ys₂} q b d f =
+-- kind 0 reads no list of vertices
+unlisted : {n : ℕ} {src tgt : List ℕ} {c : Chooser} {list lab num wor : List ℕ} {ys : List Part} {o : After} (a : Answer) → Promise (call n src tgt 0 0 c list ys lab num wor) o a → Promise (call n src tgt 0 0 c [] ys lab num wor) o a
+unlisted (Done d) p =
+    let f = p .gives in
     record {
-      chooser = c₂;
-      waiting = ys₂;
-      promise = promised {c = still} {x = still} {c₁ = still} {ys = replicate 512 none} (refl, refl) b (subst (λ (l : List Part). Driven (graph n src tgt) still l num₁ wor₁ s c₂ ys₂ num₂ wor₂ e) q d) f;
+      refusal = p .refusal;
+      gives = record { label = f .label; never = f .never; least = f .least; most = f .most; state = f .state; kind = f .kind; waiting = f .waiting; numbers = f .numbers; words = f .words };
     }
+unlisted (Refused k) p =
+    let f = p .gives in
+    record { refusal = p .refusal; gives = record { refused = f .refused; chooser = f .chooser; waiting = f .waiting; label = f .label; numbers = f .numbers; words = f .words } }
+
+pub plainly : {n : ℕ} {src tgt list lab num wor : List ℕ} {c₂ : Chooser} {ys ys₂ : List Part} {lab₃ num₃ wor₃ : List ℕ} {a : Answer}
+    → ys ≡ replicate 512 none → Promise (call n src tgt 0 0 still list ys lab num wor) (after c₂ ys₂ lab₃ num₃ wor₃) a → Plainly n src tgt lab num wor lab₃ num₃ wor₃ a
+plainly {c₂ = c₂} {ys₂ = ys₂} {a = a} q p = record { chooser = c₂; waiting = ys₂; promise = unlisted a (rw q at p) }

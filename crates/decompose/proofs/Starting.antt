@@ -1,51 +1,29 @@
--- The beginning: one part, the whole, whose chain is the order.
+-- The beginning: one part, the whole, whose chain of places is the order.
 use Prim.Native.Nat.{ℕ, zero, suc, _+_, _-_, _*_, _/_, _≤_, _<_}
 use native.Mathlib.Omega.{arith}
-use native.Mathlib.Decide.{ℕ-discrete}
 use native.Mathlib.Nat.{not-suc-le-zero}
 use mathlib.Core.Path.{_≡_, refl, sym, ap, _∙_}
-use mathlib.Core.Bool.{Bool, false}
+use mathlib.Core.Bool.{Bool}
 use mathlib.Core.List.{List}
-use lib.ListN.{length, getD, set, length-set}
-use lib.Seq.{getD-set-same, getD-set-other}
+use lib.ListN.{length, getD}
 use Rattle.graph.specs.Graph.{Graph, rev, edges}
 use Rattle.graph.specs.Limits.{wordsNeeded, numbersNeeded}
-use Rattle.graph.specs.Memory.{Zeroed}
-use Rattle.graph.specs.Numbers.{least, many}
+use Rattle.memory.specs.Memory.{Zeroed, Put}
+use Rattle.graph.specs.Numbers.{least}
 use Rattle.graph.proofs.Chains.{same-low}
-use Rattle.graph.proofs.Counts.{many-mono}
+use Rattle.graph.proofs.Counts.{many-none}
 use Rattle.sets.proofs.Store.{zero-bit}
 use Rattle.index.specs.Build.{Both}
 use Rattle.index.proofs.Counts.{start-all}
 use Rattle.index.proofs.Moved.{held-kept}
-use Rattle.regions.specs.Regions.{Filled}
-use Rattle.paint.specs.Colours.{col}
-use Rattle.pivot.specs.Order.{Arranged, Ordered, order}
-use Rattle.parts.specs.State.{ord, ring, rings, Tables, Stage}
-use Rattle.parts.specs.Chain.{own, nxt, lst, head}
+use Rattle.memory.specs.Decomposer.{col, ord, own, nxt, lst, head, chainsAt, orderAt}
+use Rattle.pivot.specs.Order.{Arranged, Ordered}
+use Rattle.split.specs.State.{ring, rings, Tables, Stage}
 use Rattle.parts.specs.Divide.{Blank}
-use Rattle.parts.proofs.Choice.{arranged-placed}
-use Rattle.parts.proofs.Rings.{ring-is}
-use Rattle.decompose.specs.Begin.{Put, StartAsk, Started, listOf}
+use Rattle.sweep.proofs.Choice.{arranged-placed}
+use Rattle.split.proofs.Rings.{ring-is}
+use Rattle.decompose.specs.Begin.{StartAsk, Started, listOf}
 use Rattle.machine.specs.Machine.{base}
-
-pub put-none : (x : ℕ) (f : ℕ → ℕ) (w : List ℕ) → Put x 0 f w w
-put-none x f w = record { here = λ j h. absurd (not-suc-le-zero h); low = λ j h. refl; high = λ j h. refl; long = refl }
-
-pub put-step : {x i : ℕ} {f : ℕ → ℕ} {w₀ w : List ℕ} (y : ℕ) → y ≡ f i → x + i < length w₀ → Put x i f w₀ w → Put x (i + 1) f w₀ (set w (x + i) y)
-put-step {x} {i} {f} {w₀} {w} y e l z =
-    record {
-      here = λ j h. elim (ℕ-discrete j i) as (λ _. getD (set w (x + i) y) (x + j) 0 ≡ f j) [
-        | yes q ↦ rw q (getD-set-same w (x + i) y 0 (omega (arith, z .long)) ∙ e)
-        | no q ↦ getD-set-other w (x + i) (x + j) y 0 (λ r. q (omega arith)) ∙ z .here j (omega arith)
-      ];
-      low = λ j h. getD-set-other w (x + i) j y 0 (λ r. omega arith) ∙ z .low j h;
-      high = λ j h. getD-set-other w (x + i) j y 0 (λ r. omega arith) ∙ z .high j (omega arith);
-      long = length-set w (x + i) y ∙ z .long;
-    }
-
-pub filled-put : {x len y : ℕ} {w w' : List ℕ} → Filled x len y w w' → Put x len (λ j. y) w w'
-filled-put f = record { here = f .each; low = f .framed .low; high = f .framed .high; long = f .framed .long }
 
 least-same : (n : ℕ) (f h : ℕ → Bool) → ((i : ℕ) → f i ≡ h i) → least n f ≡ least n h
 unfolding least
@@ -60,11 +38,6 @@ arranged-same {n} {list} {f} {h} e a =
       all = λ v l. let (i, q, m) = a .all v l in (i, q, e i ∙ m);
       exact = λ p v l t. e (least n (λ i. p (h i))) ∙ ap f (least-same n (λ i. p (h i)) (λ i. p (f i)) (λ i. ap p (e i))) ∙ a .exact p v l t;
     }
-
-none-pass : (n : ℕ) → many (λ v. false) n ≡ 0
-unfolding many
-none-pass zero = refl
-none-pass (suc n) = omega (arith, none-pass n)
 
 -- words of zeros are a set with no vertex
 pub blank-zeroed : {n : ℕ} {ws ws' : List ℕ} → wordsNeeded n ≤ length ws → Zeroed (wordsNeeded n) ws ws' → Blank n ws'
@@ -85,23 +58,23 @@ module _ (g : Graph) (L : List ℕ) {w w₁ w₂ w₃ w₄ w₅ w₆ ws ws' : Li
   some = ask .some
 
   colour : (v : ℕ) → v < g .n → col b w₆ v ≡ g .n
-  colour v l = s .low (b + v) (omega arith) ∙ r .low (b + v) (omega arith) ∙ q .low (b + v) (omega arith) ∙ p .here v l
+  colour v l = s .framed .low (b + v) (omega arith) ∙ r .framed .low (b + v) (omega arith) ∙ q .framed .low (b + v) (omega arith) ∙ p .each v l
 
   low : (j : ℕ) → j < b → getD w₆ j 0 ≡ getD w₁ j 0
-  low j h = s .low j (omega arith) ∙ r .low j (omega arith) ∙ q .low j (omega arith) ∙ p .low j h ∙ placed .beside .low j h
+  low j h = s .framed .low j (omega arith) ∙ r .framed .low j (omega arith) ∙ q .framed .low j (omega arith) ∙ p .framed .low j h ∙ placed .beside .low j h
 
   long : length w₆ ≡ length w
-  long = s .long ∙ r .long ∙ q .long ∙ p .long ∙ placed .beside .long ∙ both .long
+  long = s .framed .long ∙ r .framed .long ∙ q .framed .long ∙ p .framed .long ∙ placed .beside .long ∙ both .long
 
-  ordered : (i : ℕ) → ord (g .n) b w₆ i ≡ order b (g .n) w₂ i
-  ordered i = s .high (b + 9 * g .n + 2 + i) (omega (arith, some)) ∙ r .high (b + 9 * g .n + 2 + i) (omega arith) ∙ q .high (b + 9 * g .n + 2 + i) (omega arith) ∙ p .high (b + 9 * g .n + 2 + i) (omega arith)
+  ordered : (i : ℕ) → ord (g .n) b w₆ i ≡ ord (g .n) b w₂ i
+  ordered i = s .framed .high (orderAt (g .n) b + i) (omega (arith, some)) ∙ r .framed .high (orderAt (g .n) b + i) (omega arith) ∙ q .framed .high (orderAt (g .n) b + i) (omega arith) ∙ p .framed .high (orderAt (g .n) b + i) (omega arith)
 
   arranged : Arranged (g .n) L (ord (g .n) b w₆)
   arranged = arranged-same ordered (placed .order)
 
   beyond : (j : ℕ) → numbersNeeded (g .n) (edges g) ≤ j → getD w₆ j 0 ≡ getD w j 0
   beyond j h =
-      s .high j (omega arith) ∙ r .high j (omega arith) ∙ q .high j (omega arith) ∙ p .high j (omega arith)
+      s .framed .high j (omega arith) ∙ r .framed .high j (omega arith) ∙ q .framed .high j (omega arith) ∙ p .framed .high j (omega arith)
       ∙ placed .beside .high j (omega arith) ∙ both .rest j (omega (arith, start-all (g .counted) (g .tgt) (edges g) (g .n)))
 
   -- every place has the one colour
@@ -109,15 +82,15 @@ module _ (g : Graph) (L : List ℕ) {w w₁ w₂ w₃ w₄ w₅ w₆ ws ws' : Li
   place i l = colour (ord (g .n) b w₆ i) (arranged .low i l)
 
   follow : (i : ℕ) → i < g .n → nxt (g .n) b w₆ i ≡ i + 1
-  follow i l = s .low (b + 2 * g .n + i) (omega arith) ∙ r .low (b + 2 * g .n + i) (omega arith) ∙ q .here i l
+  follow i l = s .framed .low (chainsAt (g .n) b + i) (omega arith) ∙ r .framed .low (chainsAt (g .n) b + i) (omega arith) ∙ q .each i l
 
   last : (c : ℕ) → g .n ≤ c → c < 4 * g .n + 2 → lst (g .n) b w₆ c ≡ g .n
   last c l h =
-      let e : b + 2 * g .n + c ≡ b + 3 * g .n + (c - g .n) = omega arith in
-      s .low (b + 2 * g .n + c) (omega arith) ∙ ap (λ (j : ℕ). getD w₅ j 0) e ∙ r .here (c - g .n) (omega arith)
+      let e : chainsAt (g .n) b + c ≡ b + 3 * g .n + (c - g .n) = omega arith in
+      s .framed .low (chainsAt (g .n) b + c) (omega arith) ∙ ap (λ (j : ℕ). getD w₅ j 0) e ∙ r .each (c - g .n) (omega arith)
 
   zeroth : head (g .n) b w₆ 0 ≡ 0
-  zeroth = s .here 0 (omega arith)
+  zeroth = s .each 0 (omega arith)
 
   tables : Tables g b w₆
   tables =
@@ -172,4 +145,4 @@ module _ (g : Graph) (L : List ℕ) {w w₁ w₂ w₃ w₄ w₅ w₆ ws ws' : Li
 -- at the beginning no component has its label
 pub rings-begin : (g : Graph) (b : ℕ) (w : List ℕ) → ((v : ℕ) → v < g .n → col b w v ≡ g .n) → rings g b w ≤ 0
 rings-begin g b w h =
-    omega (arith, many-mono (ring (g .n) (col b w)) (λ v. false) (g .n) (λ i l t. absurd (omega (arith, ring-is (g .n) (col b w) i t .0, h i l))), none-pass (g .n))
+    omega (arith, many-none (ring (g .n) (col b w)) (g .n) (λ i l t. omega (arith, ring-is (g .n) (col b w) i t .0, h i l)))

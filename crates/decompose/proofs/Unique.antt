@@ -7,7 +7,7 @@ use mathlib.Core.List.{List}
 use lib.ListN.{getD}
 use lib.Seq.{ext-getD}
 use Rattle.graph.specs.Pivot.{draws}
-use Rattle.graph.proofs.Memory.{zeroed-one}
+use Rattle.memory.proofs.Memory.{zeroed-one}
 use Rattle.waiting.specs.declared.Part.{Part}
 use Rattle.waiting.specs.Records.{none}
 use Rattle.pivot.specs.declared.chooser.Chooser.{Chooser}

@@ -7,8 +7,7 @@ use lib.ListN.{length, getD}
 use lib.Dec.{eqb}
 use Rattle.graph.specs.Graph.{Graph, Valid, edges, graph}
 use Rattle.graph.specs.Limits.{mostVertices, mostEdges, numbersNeeded, wordsNeeded, Enough}
-use Rattle.parts.specs.Chain.{head}
-use Rattle.parts.specs.State.{ord}
+use Rattle.memory.specs.Decomposer.{head, ord}
 use Rattle.parts.specs.Divide.{Blank}
 use Rattle.pivot.specs.Order.{Arranged}
 use Rattle.pivot.specs.declared.chooser.Chooser.{Chooser}
@@ -18,17 +17,6 @@ use Rattle.machine.specs.Aim.{aimed}
 use Rattle.machine.specs.Machine.{base, Whole}
 use Rattle.machine.specs.Waits.{Waits}
 use Rattle.decompose.specs.Promise.{refusalOf}
-
--- len numbers from x on were put, each by its place
-pub record Put (x len : ℕ) (f : ℕ → ℕ) (w w' : List ℕ) : Type 0 where
-  pub here : (j : ℕ) → j < len → getD w' (x + j) 0 ≡ f j
-  pub low : (j : ℕ) → j < x → getD w' j 0 ≡ getD w j 0
-  pub high : (j : ℕ) → x + len ≤ j → getD w' j 0 ≡ getD w j 0
-  pub long : length w' ≡ length w
-
-pub record NumberAsk (x len : ℕ) (w : List ℕ) : Type 0 where
-  pub fits : x + len ≤ length w
-  pub small : len ≤ mostVertices
 
 -- the caller's list counts for kind 2 only
 abbrev pub listOf : ℕ → List ℕ → List ℕ
@@ -52,13 +40,13 @@ pub record Started (g : Graph) (kind : ℕ) (list num wor num' wor' : List ℕ) 
   pub words : (j : ℕ) → wordsNeeded (g .n) ≤ j → getD wor' j 0 ≡ getD wor j 0
 
 -- a machine with nothing to do
-abbrev pub idleWith : ℕ → Machine
-idleWith k =
+abbrev pub idleWith : ℕ → Chooser → Machine
+idleWith k c =
     record {
       go = 0;
       read = 0;
       part = none;
-      draws = 0;
+      chooser = c;
       made = 0;
       refusal = k;
       order = 0;
@@ -72,13 +60,13 @@ idleWith k =
     }
 
 -- the whole is pending, to be sliced by method 1
-abbrev pub firstOne : (n method order : ℕ) → Machine
-firstOne n method order =
+abbrev pub firstOne : (n method order : ℕ) → Chooser → Machine
+firstOne n method order c =
     record {
       go = 0;
       read = 0;
       part = none;
-      draws = 0;
+      chooser = c;
       made = 0;
       refusal = 0;
       order = order;
@@ -94,7 +82,7 @@ firstOne n method order =
 -- refused, or nothing to do, or begun
 pub data Begun (n : ℕ) (src tgt : List ℕ) (method order : ℕ) (c : Chooser) (list : List ℕ) (waiting label : ℕ) (num wor : List ℕ) : List ℕ → List ℕ → Machine → Type 0 where
   refused : (refusalOf n src tgt method order (c .kind) label waiting (length num) (length wor) ≡ 0 → ⊥)
-      → Begun n src tgt method order c list waiting label num wor num wor (idleWith (refusalOf n src tgt method order (c .kind) label waiting (length num) (length wor)))
-  nothing : refusalOf n src tgt method order (c .kind) label waiting (length num) (length wor) ≡ 0 → n ≡ 0 → Begun n src tgt method order c list waiting label num wor num wor (idleWith 0)
+      → Begun n src tgt method order c list waiting label num wor num wor (idleWith (refusalOf n src tgt method order (c .kind) label waiting (length num) (length wor)) c)
+  nothing : refusalOf n src tgt method order (c .kind) label waiting (length num) (length wor) ≡ 0 → n ≡ 0 → Begun n src tgt method order c list waiting label num wor num wor (idleWith 0 c)
   begun : {num' wor' : List ℕ} → refusalOf n src tgt method order (c .kind) label waiting (length num) (length wor) ≡ 0 → 0 < n
-      → Started (graph n src tgt) (c .kind) list num wor num' wor' → Begun n src tgt method order c list waiting label num wor num' wor' (aimed n (firstOne n method order))
+      → Started (graph n src tgt) (c .kind) list num wor num' wor' → Begun n src tgt method order c list waiting label num wor num' wor' (aimed n (firstOne n method order c))

@@ -3,8 +3,7 @@ use Prim.Native.Nat.{ℕ, _+_, _*_}
 use mathlib.Core.Path.{_≡_}
 use mathlib.Core.List.{List}
 use lib.ListN.{length}
-use Rattle.graph.specs.Memory.{ClearAsk, Cleared}
-use Rattle.regions.specs.Regions.{Copied}
+use Rattle.memory.specs.Memory.{ClearAsk, Cleared, Copied}
 use Rattle.machine.specs.declared.Machine.{Machine}
 use Rattle.decompose.specs.declared.finish.Answer.{Answer}
 use Rattle.decompose.specs.declared.finish.Answer.the-variants.{Done, Refused}

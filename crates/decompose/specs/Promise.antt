@@ -7,7 +7,7 @@ use lib.ListN.{length, getD}
 use lib.Dec.{eqb, ltb}
 use Rattle.graph.specs.Graph.{graph}
 use Rattle.graph.specs.Limits.{numbersNeeded, wordsNeeded, wrongLength, memoryShort, listShort, unknownChoice}
-use Rattle.graph.specs.Memory.{Zeroed}
+use Rattle.memory.specs.Memory.{Zeroed}
 use Rattle.graph.specs.Pivot.{draws}
 use Rattle.graph.specs.Refusal.{given, _or_, tableRefusal, lacking}
 use Rattle.graph.specs.Search.{labels}

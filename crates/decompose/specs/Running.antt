@@ -1,5 +1,5 @@
 -- What holds between two turns.
-use Prim.Native.Nat.{ℕ, _+_, _-_, _≤_, _<_}
+use Prim.Native.Nat.{ℕ, _+_, _≤_, _<_}
 use mathlib.Core.Path.{_≡_}
 use mathlib.Core.List.{List}
 use mathlib.Core.Logic.{_⊎_}
@@ -7,7 +7,7 @@ use lib.ListN.{length, getD}
 use Rattle.graph.specs.Graph.{Graph, edges}
 use Rattle.graph.specs.Limits.{mostVertices, mostEdges, numbersNeeded, wordsNeeded}
 use Rattle.graph.specs.Pivot.{draws}
-use Rattle.parts.specs.State.{labelled, rings}
+use Rattle.split.specs.State.{labelled, rings}
 use Rattle.waiting.specs.declared.Part.{Part}
 use Rattle.waiting.specs.Records.{none}
 use Rattle.pivot.specs.declared.chooser.Chooser.{Chooser}
@@ -44,18 +44,18 @@ pub record Running (g : Graph) (c : Chooser) (ys : List Part) (num wor : List �
   pub drawn : c .kind ≡ 1 → rings g (base g) num ≤ s .made
   pub still : (c .kind ≡ 1 → ⊥) → s .made ≡ 0
   pub most : s .made ≤ labelled g (base g) num + g .n
+  -- the chooser is the one lent, advanced by the draws made
+  pub kind : s .chooser .kind ≡ c .kind
+  pub state : s .chooser .state ≡ draws (s .made) (c .state)
   pub going : s .go ≡ goes (g .n) s
   pub reading : s .read ≡ aim (g .n) s
 
--- What stays through turns: records beyond n, memory beyond what is needed, the kind; the state is advanced by the draws made.
-pub record Went (n m : ℕ) (c : Chooser) (ys : List Part) (num wor : List ℕ) (s : Machine) (c' : Chooser) (ys' : List Part) (num' wor' : List ℕ) (e : Machine) : Type 0 where
+-- What stays through turns: records beyond n, memory beyond what is needed, the refusal.
+pub record Went (n m : ℕ) (ys : List Part) (num wor : List ℕ) (s : Machine) (ys' : List Part) (num' wor' : List ℕ) (e : Machine) : Type 0 where
   pub long : length ys' ≡ length ys
   pub list : (j : ℕ) → n ≤ j → getD ys' j none ≡ getD ys j none
   pub numbers-long : length num' ≡ length num
   pub numbers : (j : ℕ) → numbersNeeded n m ≤ j → getD num' j 0 ≡ getD num j 0
   pub words-long : length wor' ≡ length wor
   pub words : (j : ℕ) → wordsNeeded n ≤ j → getD wor' j 0 ≡ getD wor j 0
-  pub kind : c' .kind ≡ c .kind
-  pub made : s .made ≤ e .made
-  pub state : c' .state ≡ draws (e .made - s .made) (c .state)
   pub refusal : e .refusal ≡ s .refusal

@@ -6,12 +6,14 @@ ghost use Rattle.graph.specs.Limits.{mostVertices};
 ghost use Rattle.pivot.specs.Order.{Ordered};
 ghost use Rattle.pivot.specs.Placing.{Room};
 ghost use Rattle.decompose.specs.Promise.{refusalOf};
-ghost use Rattle.decompose.specs.Begin.{Put, NumberAsk, listOf, StartAsk, Started, idleWith, firstOne, Begun};
+ghost use Rattle.decompose.specs.Begin.{listOf, StartAsk, Started, idleWith, firstOne, Begun};
 use graph::limits;
 use graph::table;
 use index::build;
-use index::memory;
 use machine::Machine;
+use memory::decomposer::CHAINS;
+use memory::decomposer::LASTS;
+use memory::decomposer::PENDING;
 use pivot::chooser::Chooser;
 use pivot::order;
 use waiting::Part;
@@ -56,27 +58,15 @@ fn refusal(
     0
 }
 
-// len numbers from x on become 1, 2, ..
-fn number(w: &mut [u32], x: usize, len: usize)
-    requires { ⌜ NumberAsk x len (now w) ⌝ }
-    ensures { λ _. ⌜ Put x len (λ j. j + 1) (now (w .entry)) (now (w .exit)) ⌝ }
-{
-    let mut i = 0;
-    while i < len {
-        w[x + i] = (i + 1) as u32;
-        i += 1;
-    }
-}
-
 // The order of the caller's list; kinds 0 and 1 know no list, and their order is the rising one.
 fn arrange(n: usize, kind: u32, list: &[u32], w: &mut [u32], b: usize)
-    requires { ⌜ Room b n (now w) ⌝ }
+    requires { ⌜ Room n b (now w) ⌝ }
     ensures { λ _. ⌜ Ordered n (listOf kind (now (list .entry))) b (now (w .entry)) (now (w .exit)) ⌝ }
 {
     if kind != 2 {
         return order::rising(n, w, b);
     }
-    order::arrange(list, n, w, b);
+    order::arrange(n, list, w, b);
 }
 
 // The indexes and the order are made, and the whole collection is the one part, pending.
@@ -93,18 +83,18 @@ fn start(
     ensures { λ _. ⌜ Started (graph n (now (sources .entry)) (now (targets .entry))) kind (now (list .entry)) (now (numbers .entry)) (now (words .entry)) (now (numbers .exit)) (now (words .exit)) ⌝ }
 {
     let b = 2 * (n + 1 + sources.len());
-    build::both(sources, targets, n, numbers);
+    build::both(n, sources, targets, numbers);
     arrange(n, kind, list, numbers, b);
-    regions::fill(numbers, b, n, n as u32);
-    number(numbers, b + 2 * n, n);
-    regions::fill(numbers, b + 3 * n, 3 * n + 2, n as u32);
-    regions::fill(numbers, b + 8 * n + 2, 1, 0);
+    memory::fill(numbers, b, n, n as u32);
+    memory::count(numbers, b + CHAINS * n, n, 1);
+    memory::fill(numbers, b + LASTS * n, 3 * n + 2, n as u32);
+    memory::fill(numbers, b + PENDING * n + 2, 1, 0);
     memory::zero_words(words, limits::words_needed(n));
 }
 
 // A machine with nothing to do, that refuses with k.
-fn idle(k: u32) -> Machine
-    ensures { λ s. ⌜ s ≡ idleWith k ⌝ }
+fn idle(k: u32, chooser: Chooser) -> Machine
+    ensures { λ s. ⌜ s ≡ idleWith k chooser ⌝ }
 {
     let p = Part {
         first: 0,
@@ -114,7 +104,7 @@ fn idle(k: u32) -> Machine
         go: 0,
         read: 0,
         part: p,
-        draws: 0,
+        chooser: chooser,
         made: 0,
         refusal: k,
         order: 0,
@@ -129,9 +119,9 @@ fn idle(k: u32) -> Machine
 }
 
 // The whole collection is pending, to be sliced by method 1.
-fn first(n: usize, method: u32, order: u32) -> Machine
+fn first(n: usize, method: u32, order: u32, chooser: Chooser) -> Machine
     requires { ⌜ n ≤ mostVertices ⌝ }
-    ensures { λ s. ⌜ s ≡ firstOne n method order ⌝ }
+    ensures { λ s. ⌜ s ≡ firstOne n method order chooser ⌝ }
 {
     let p = Part {
         first: 0,
@@ -141,7 +131,7 @@ fn first(n: usize, method: u32, order: u32) -> Machine
         go: 0,
         read: 0,
         part: p,
-        draws: 0,
+        chooser: chooser,
         made: 0,
         refusal: 0,
         order: order,
@@ -184,11 +174,11 @@ pub fn begin(
         words.len(),
     );
     if k != 0 {
-        return idle(k);
+        return idle(k, chooser);
     }
     if n == 0 {
-        return idle(0);
+        return idle(0, chooser);
     }
     start(n, sources, targets, chooser.kind, list, numbers, words);
-    machine::aimed(n, first(n, method, order))
+    machine::aimed(n, first(n, method, order, chooser))
 }

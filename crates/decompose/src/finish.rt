@@ -1,6 +1,5 @@
 // The end of a decomposition: the colours become the label column, and the working memory is zeroed.
 ghost use Rattle.decompose.specs.Finish.{FinishAsk, Ended};
-use index::memory;
 use machine::Machine;
 
 pub enum Answer {
@@ -24,7 +23,7 @@ pub fn finish(
     if k != 0 {
         return Answer::Refused(k);
     }
-    regions::copy(numbers, 2 * (n + 1 + edges), label);
+    memory::copy(numbers, 2 * (n + 1 + edges), label);
     memory::clear(n, edges, numbers, words);
     Answer::Done { draws: s.made }
 }

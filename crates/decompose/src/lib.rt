@@ -39,6 +39,7 @@ pub fn decompose(
         numbers,
         words,
     );
-    let e = turns::drive(n, sources.len(), chooser, waiting, numbers, words, s);
+    let e = turns::drive(n, sources.len(), waiting, numbers, words, s);
+    pivot::chooser::put(chooser, e.chooser);
     finish::finish(n, sources.len(), label, numbers, words, e)
 }

@@ -9,7 +9,7 @@ use borrow.Author.Tests.{lt-ltb, le-ltb, eq-eqb, ne-eqb}
 use Rattle.machine.specs.declared.Machine.{Machine}
 use Rattle.machine.specs.Aim.{wrapped, ring, aim, goes}
 use Rattle.machine.specs.Machine.{dividing}
-use Rattle.machine.proofs.Ring.{wrapped-same, wrapped-next}
+use Rattle.machine.proofs.Round.{wrapped-same, wrapped-next}
 use Rattle.machine.proofs.Waiting.{Without, without-last, without-first}
 
 -- what a turn does
@@ -79,7 +79,7 @@ pub record Takes (n : ℕ) (s : Machine) (t : ℕ) (m : ℕ → ℕ) : Type 0 wh
   pub low : t < s .count
   pub here : aim n s ≡ ring n s t
   pub without : Without (s .count) t m
-  pub moved : (k top children i : ℕ) → i + 1 < s .count → ring n (dividing n s k top children) i ≡ ring n s (m i)
+  pub moved : (state k top children i : ℕ) → i + 1 < s .count → ring n (dividing n s state k top children) i ≡ ring n s (m i)
 
 pub takes : (n : ℕ) (s : Machine) → s .oldest < n → s .count ≤ n → n ≤ s .cleared → s .pending ≤ s .given → 0 < s .count → (t : ℕ) × (m : ℕ → ℕ) × Takes n s t m
 takes n s o f a b c = elim (ℕ-discrete (s .order) 0) as (λ _. (t : ℕ) × (m : ℕ → ℕ) × Takes n s t m) [
@@ -90,7 +90,7 @@ takes n s o f a b c = elim (ℕ-discrete (s .order) 0) as (λ _. (t : ℕ) × (m
       low = omega arith;
       here = aim-newest n s a b c d;
       without = without-last (s .count) c;
-      moved = λ k top ch i l. ap (λ (x : ℕ). wrapped n (x + i)) (newest d);
+      moved = λ state k top ch i l. ap (λ (x : ℕ). wrapped n (x + i)) (newest d);
     },
   )
   | no d ↦ (
@@ -100,7 +100,7 @@ takes n s o f a b c = elim (ℕ-discrete (s .order) 0) as (λ _. (t : ℕ) × (m
       low = c;
       here = aim-oldest n s a b c d ∙ omega (arith, wrapped-same n (s .oldest + 0) (omega arith));
       without = without-first (s .count);
-      moved = λ k top ch i l. ap (λ (x : ℕ). wrapped n (x + i)) (oldest d) ∙ wrapped-next n (s .oldest) i o (omega arith);
+      moved = λ state k top ch i l. ap (λ (x : ℕ). wrapped n (x + i)) (oldest d) ∙ wrapped-next n (s .oldest) i o (omega arith);
     },
   )
 ]

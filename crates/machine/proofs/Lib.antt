@@ -1,4 +1,4 @@
-pub mod Ring
+pub mod Round
 pub mod Waiting
 pub mod Aiming
 pub mod Cutting

@@ -1,5 +1,5 @@
 -- The parts that wait: at most n, and what dividing one of them makes of them.
-use Prim.Native.Nat.{ℕ, _+_, _-_, _*_, _≤_, _<_}
+use Prim.Native.Nat.{ℕ, _+_, _-_, _≤_, _<_}
 use native.Mathlib.Omega.{arith}
 use native.Mathlib.Decide.{decLt, ℕ-discrete}
 use mathlib.Core.Path.{_≡_, refl, sym, ap, _∙_}
@@ -8,9 +8,8 @@ use mathlib.Core.List.{List}
 use Rattle.graph.specs.Graph.{Graph}
 use Rattle.graph.specs.Numbers.{table}
 use Rattle.graph.proofs.Tests.{getD-table}
-use Rattle.paint.specs.Colours.{col}
-use Rattle.parts.specs.State.{ord}
-use Rattle.parts.specs.Chain.{own, nxt, head, Follows, First}
+use Rattle.memory.specs.Decomposer.{col, ord, own, nxt, head, orderAt}
+use Rattle.split.specs.Chain.{Follows, First}
 use Rattle.parts.proofs.Sharing.{pigeons}
 use Rattle.parts.specs.Divide.{DivideAsk, Handed, Blank}
 use Rattle.machine.specs.Waits.{Waits}
@@ -66,7 +65,7 @@ without-first k =
 module _ {g : Graph} {b top k : ℕ} {h : ℕ → ℕ} {w : List ℕ} (z : Waits g b top k h w) (t : ℕ) (l : t < k) (m : ℕ → ℕ) (o : Without k t m)
     {ws w' ws' : List ℕ} {top' children : ℕ} (v : Handed g b (h t) top w ws w' ws' top' children) where
   ord-same : (i : ℕ) → ord (g .n) b w' i ≡ ord (g .n) b w i
-  ord-same i = v .high (b + 9 * g .n + 2 + i) (omega arith)
+  ord-same i = v .high (orderAt (g .n) b + i) (omega arith)
 
   own-same : (i : ℕ) → i < g .n → (own (g .n) b w i ≡ own (g .n) b w (h t) → ⊥) → own (g .n) b w' i ≡ own (g .n) b w i
   own-same i a e = ap (col b w') (ord-same i) ∙ v .others (ord (g .n) b w i) (z .stage .placed .low i a) e

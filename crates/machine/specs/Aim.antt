@@ -1,11 +1,11 @@
--- Where the next turn reads: the list is a ring of n places.
+-- Where the next turn reads: the list goes round over n places.
 use Prim.Native.Nat.{ℕ, _+_, _-_, _≤_}
 use mathlib.Core.Bool.{cond}
 use lib.Dec.{eqb, ltb}
 use Rattle.graph.specs.Limits.{mostVertices}
 use Rattle.machine.specs.declared.Machine.{Machine}
 
--- place x of a ring of n places
+-- place x, going round over n places
 unfoldable pub wrapped : ℕ → ℕ → ℕ
 wrapped n x = cond (ltb x n) x (x - n)
 
@@ -35,7 +35,7 @@ aimed n s =
       go = goes n s;
       read = aim n s;
       part = s .part;
-      draws = s .draws;
+      chooser = s .chooser;
       made = s .made;
       refusal = s .refusal;
       order = s .order;

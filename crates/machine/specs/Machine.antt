@@ -7,13 +7,13 @@ use lib.ListN.{length}
 use lib.Dec.{eqb}
 use Rattle.graph.specs.Graph.{Graph, edges}
 use Rattle.graph.specs.Limits.{mostVertices, mostEdges}
-use Rattle.parts.specs.Chain.{head}
+use Rattle.graph.specs.Pivot.{draws}
+use Rattle.memory.specs.Decomposer.{head, col}
 use Rattle.waiting.specs.declared.Part.{Part}
 use Rattle.waiting.specs.Records.{none}
 use Rattle.pivot.specs.declared.chooser.Chooser.{Chooser}
 use Rattle.machine.specs.declared.Machine.{Machine}
-use Rattle.paint.specs.Colours.{col}
-use Rattle.parts.specs.State.{labelled, rings}
+use Rattle.split.specs.State.{labelled, rings}
 use Rattle.parts.specs.Divide.{DivideAsk, Handed}
 use Rattle.machine.specs.Aim.{wrapped, aimed}
 
@@ -28,7 +28,7 @@ clearing s =
       go = s .go;
       read = s .read;
       part = none;
-      draws = 0;
+      chooser = s .chooser;
       made = s .made;
       refusal = s .refusal;
       order = s .order;
@@ -48,7 +48,7 @@ handing n b w s =
       go = s .go;
       read = s .read;
       part = record { first = head n b w (s .given); slicing = s .slicing };
-      draws = 0;
+      chooser = s .chooser;
       made = s .made;
       refusal = s .refusal;
       order = s .order;
@@ -65,14 +65,14 @@ handing n b w s =
 abbrev pub olderThan : ℕ → Machine → ℕ
 olderThan n s = cond (eqb (s .order) 0) (s .oldest) (wrapped n (s .oldest + 1))
 
--- the record taken was divided by k draws into so many children
-abbrev pub dividing : ℕ → Machine → (k top children : ℕ) → Machine
-dividing n s k top children =
+-- the record taken was divided by k draws, which left the state, into so many children
+abbrev pub dividing : ℕ → Machine → (state k top children : ℕ) → Machine
+dividing n s state k top children =
     record {
       go = s .go;
       read = s .read;
       part = none;
-      draws = k;
+      chooser = record { kind = s .chooser .kind; state = state };
       made = s .made + k;
       refusal = s .refusal;
       order = s .order;
@@ -92,11 +92,11 @@ pub record Whole (n b h top : ℕ) (w : List ℕ) : Type 0 where
   pub first : top ≡ n + 1
 
 -- the part at h was divided with k draws: by method 0, or the whole by method 1
-pub data Cut (g : Graph) (b kind h top slicing : ℕ) (w ws w' ws' : List ℕ) (k top' children : ℕ) : Type 0 where
-  parted : Handed g b h top w ws w' ws' top' children → ((kind ≡ 1 → ⊥) → k ≡ 0)
-      → (kind ≡ 1 → rings g b w' ≤ rings g b w + k) → labelled g b w + k ≤ labelled g b w' → labelled g b w < labelled g b w' → Cut g b kind h top slicing w ws w' ws' k top' children
-  sliced : Handed g b h top w ws w' ws' top' children → ((kind ≡ 1 → ⊥) → k ≡ 0)
-      → (kind ≡ 1 → rings g b w' ≤ rings g b w + k) → k ≤ g .n → slicing ≡ 1 → Cut g b kind h top slicing w ws w' ws' k top' children
+pub data Cut (g : Graph) (b : ℕ) (c : Chooser) (h top slicing : ℕ) (w ws w' ws' : List ℕ) (state k top' children : ℕ) : Type 0 where
+  parted : Handed g b h top w ws w' ws' top' children → state ≡ draws k (c .state) → ((c .kind ≡ 1 → ⊥) → k ≡ 0)
+      → (c .kind ≡ 1 → rings g b w' ≤ rings g b w + k) → labelled g b w + k ≤ labelled g b w' → labelled g b w < labelled g b w' → Cut g b c h top slicing w ws w' ws' state k top' children
+  sliced : Handed g b h top w ws w' ws' top' children → state ≡ draws k (c .state) → ((c .kind ≡ 1 → ⊥) → k ≡ 0)
+      → (c .kind ≡ 1 → rings g b w' ≤ rings g b w + k) → k ≤ g .n → slicing ≡ 1 → Cut g b c h top slicing w ws w' ws' state k top' children
 
 pub record CutAsk (g : Graph) (b : ℕ) (p : Part) (top : ℕ) (w ws : List ℕ) : Type 0 where
   pub ask : DivideAsk g b (p .first) top w ws
@@ -116,7 +116,7 @@ pub record HandAsk (n m : ℕ) (num : List ℕ) (s : Machine) : Type 0 where
   pub count : s .count < n
   pub given : s .given < n
 
-pub record StepAsk (g : Graph) (p : Part) (c : Chooser) (s : Machine) (num wor : List ℕ) : Type 0 where
+pub record StepAsk (g : Graph) (p : Part) (s : Machine) (num wor : List ℕ) : Type 0 where
   pub small : g .n ≤ mostVertices
   pub few : edges g ≤ mostEdges
   pub fits : base g + 10 * g .n + 2 ≤ length num
@@ -129,15 +129,15 @@ pub record StepAsk (g : Graph) (p : Part) (c : Chooser) (s : Machine) (num wor :
   pub part : g .n ≤ s .cleared → s .pending ≤ s .given → (0 < s .count) × CutAsk g (base g) p (s .top) num wor
 
 -- a record is cleared, or a pending part handed out, or the part of the record divided
-pub data Stepped (g : Graph) (p : Part) (c : Chooser) (s : Machine) (num wor : List ℕ) : List ℕ → List ℕ → Machine → Type 0 where
-  clears : s .cleared < g .n → Stepped g p c s num wor num wor (aimed (g .n) (clearing s))
-  hands : g .n ≤ s .cleared → s .given < s .pending → Stepped g p c s num wor num wor (aimed (g .n) (handing (g .n) (base g) num s))
-  divides : {num' wor' : List ℕ} {k top children : ℕ} → g .n ≤ s .cleared → s .pending ≤ s .given
-      → Cut g (base g) (c .kind) (p .first) (s .top) (p .slicing) num wor num' wor' k top children
-      → Stepped g p c s num wor num' wor' (aimed (g .n) (dividing (g .n) s k top children))
+pub data Stepped (g : Graph) (p : Part) (s : Machine) (num wor : List ℕ) : List ℕ → List ℕ → Machine → Type 0 where
+  clears : s .cleared < g .n → Stepped g p s num wor num wor (aimed (g .n) (clearing s))
+  hands : g .n ≤ s .cleared → s .given < s .pending → Stepped g p s num wor num wor (aimed (g .n) (handing (g .n) (base g) num s))
+  divides : {num' wor' : List ℕ} {state k top children : ℕ} → g .n ≤ s .cleared → s .pending ≤ s .given
+      → Cut g (base g) (s .chooser) (p .first) (s .top) (p .slicing) num wor num' wor' state k top children
+      → Stepped g p s num wor num' wor' (aimed (g .n) (dividing (g .n) s state k top children))
 
 -- the record is to be divided
-pub record PartAsk (g : Graph) (p : Part) (c : Chooser) (s : Machine) (num wor : List ℕ) : Type 0 where
-  pub ask : StepAsk g p c s num wor
+pub record PartAsk (g : Graph) (p : Part) (s : Machine) (num wor : List ℕ) : Type 0 where
+  pub ask : StepAsk g p s num wor
   pub cleared : g .n ≤ s .cleared
   pub given : s .pending ≤ s .given

@@ -6,8 +6,9 @@ use mathlib.Core.List.{List}
 use lib.ListN.{getD}
 use lib.Dec.{ltb}
 use Rattle.graph.specs.Graph.{Graph}
-use Rattle.parts.specs.State.{Stage}
-use Rattle.parts.specs.Chain.{own, nxt, lst, head, Follows, First}
+use Rattle.split.specs.State.{Stage}
+use Rattle.memory.specs.Decomposer.{own, nxt, lst, head}
+use Rattle.split.specs.Chain.{Follows, First}
 use Rattle.waiting.specs.declared.Part.{Part}
 use Rattle.waiting.specs.Records.{none}
 use Rattle.machine.specs.declared.Machine.{Machine}

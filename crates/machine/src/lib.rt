@@ -1,6 +1,7 @@
 // The machine of the decomposer: covered code that decides what the next turn does with the list of waiting parts.
 ghost use mathlib.Core.Path.{_≡_};
 ghost use Rattle.machine.specs.Aim.{AimAsk, wrapped, aim as aimOf, goes as goesOf, aimed as aimedAt};
+use pivot::chooser::Chooser;
 use waiting::Part;
 
 pub mod step;
@@ -11,8 +12,8 @@ pub struct Machine {
     // the place of the list that the next turn takes, and what the last turn put
     pub read: usize,
     pub part: Part,
-    // the draws of the last turn, and all draws
-    pub draws: usize,
+    // the chooser as it stands, and the draws made
+    pub chooser: Chooser,
     pub made: usize,
     pub refusal: u32,
     pub order: u32,
@@ -29,7 +30,7 @@ pub struct Machine {
     pub top: usize,
 }
 
-// Place x of a ring of n places.
+// Place x, going round over n places.
 fn wrap(n: usize, x: usize) -> usize
     ensures { λ r. ⌜ r ≡ wrapped n x ⌝ }
 {

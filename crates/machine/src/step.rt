@@ -22,7 +22,6 @@ fn clear(n: usize, s: Machine) -> Machine
     let cleared = s.cleared + 1;
     let mut e = s;
     e.part = p;
-    e.draws = 0;
     e.cleared = cleared;
     crate::aimed(n, e)
 }
@@ -41,7 +40,6 @@ fn hand(n: usize, edges: usize, numbers: &[u32], s: Machine) -> Machine
     let given = s.given + 1;
     let mut e = s;
     e.part = p;
-    e.draws = 0;
     e.count = count;
     e.given = given;
     crate::aimed(n, e)
@@ -58,22 +56,19 @@ fn cut(
     top: usize,
 ) -> Divided
     requires { ⌜ SomeOf n m (λ g. CutAsk g (base g) part top (now numbers) (now words)) ⌝ }
-    ensures { λ r. ⌜ EveryOf n m (λ g. CutAsk g (base g) part top (now (numbers .entry)) (now (words .entry)) → Cut g (base g) (chooser .kind) (part .first) top (part .slicing) (now (numbers .entry)) (now (words .entry)) (now (numbers .exit)) (now (words .exit)) (r .draws) (r .top) (r .children)) ⌝ }
+    ensures { λ r. ⌜ EveryOf n m (λ g. CutAsk g (base g) part top (now (numbers .entry)) (now (words .entry)) → Cut g (base g) chooser (part .first) top (part .slicing) (now (numbers .entry)) (now (words .entry)) (now (numbers .exit)) (now (words .exit)) (r .state) (r .draws) (r .top) (r .children)) ⌝ }
 {
     let b = 2 * (n + 1 + m);
-    if part.slicing == 1 {
-        return slices::divide::divide(n, m, numbers, words, b, chooser.kind, chooser.state, top);
-    }
     divide::divide(
         n,
         m,
         numbers,
         words,
         b,
-        chooser.kind,
-        chooser.state,
         part.first as usize,
+        chooser,
         top,
+        part.slicing,
     )
 }
 
@@ -88,20 +83,19 @@ fn older(n: usize, s: Machine) -> usize
     crate::wrap(n, s.oldest + 1)
 }
 
-// The record that was taken is divided, and its children are pending.
+// The record that was taken is divided, and its new parts are pending.
 fn take(
     n: usize,
     m: usize,
     numbers: &mut [u32],
     words: &mut [u64],
     part: Part,
-    chooser: Chooser,
     s: Machine,
 ) -> Machine
-    requires { ⌜ SomeOf n m (λ g. PartAsk g part chooser s (now numbers) (now words)) ⌝ }
-    ensures { λ e. ⌜ EveryOf n m (λ g. PartAsk g part chooser s (now (numbers .entry)) (now (words .entry)) → Stepped g part chooser s (now (numbers .entry)) (now (words .entry)) (now (numbers .exit)) (now (words .exit)) e) ⌝ }
+    requires { ⌜ SomeOf n m (λ g. PartAsk g part s (now numbers) (now words)) ⌝ }
+    ensures { λ e. ⌜ EveryOf n m (λ g. PartAsk g part s (now (numbers .entry)) (now (words .entry)) → Stepped g part s (now (numbers .entry)) (now (words .entry)) (now (numbers .exit)) (now (words .exit)) e) ⌝ }
 {
-    let r = cut(n, m, numbers, words, part, chooser, s.top);
+    let r = cut(n, m, numbers, words, part, s.chooser, s.top);
     let empty = Part {
         first: 0,
         slicing: 0,
@@ -109,9 +103,13 @@ fn take(
     let made = s.made + r.draws;
     let oldest = older(n, s);
     let count = s.count - 1;
+    let chooser = Chooser {
+        kind: s.chooser.kind,
+        state: r.state,
+    };
     let mut e = s;
     e.part = empty;
-    e.draws = r.draws;
+    e.chooser = chooser;
     e.made = made;
     e.oldest = oldest;
     e.count = count;
@@ -129,11 +127,10 @@ pub fn step(
     numbers: &mut [u32],
     words: &mut [u64],
     part: Part,
-    chooser: Chooser,
     s: Machine,
 ) -> Machine
-    requires { ⌜ SomeOf n m (λ g. StepAsk g part chooser s (now numbers) (now words)) ⌝ }
-    ensures { λ e. ⌜ EveryOf n m (λ g. StepAsk g part chooser s (now (numbers .entry)) (now (words .entry)) → Stepped g part chooser s (now (numbers .entry)) (now (words .entry)) (now (numbers .exit)) (now (words .exit)) e) ⌝ }
+    requires { ⌜ SomeOf n m (λ g. StepAsk g part s (now numbers) (now words)) ⌝ }
+    ensures { λ e. ⌜ EveryOf n m (λ g. StepAsk g part s (now (numbers .entry)) (now (words .entry)) → Stepped g part s (now (numbers .entry)) (now (words .entry)) (now (numbers .exit)) (now (words .exit)) e) ⌝ }
 {
     if s.cleared < n {
         return clear(n, s);
@@ -141,5 +138,5 @@ pub fn step(
     if s.given < s.pending {
         return hand(n, m, numbers, s);
     }
-    take(n, m, numbers, words, part, chooser, s)
+    take(n, m, numbers, words, part, s)
 }

@@ -3,20 +3,21 @@ use Prim.Native.Nat.{ℕ, suc, _+_, _-_, _*_, _^_, _≤_, _<_}
 use native.Mathlib.Omega.{arith}
 use native.Mathlib.Decide.{decLt}
 use native.Mathlib.Numerals.{add-one}
-use mathlib.Core.Path.{_≡_, refl, sym, _∙_}
-use mathlib.Core.Bool.{Bool, cond, _&&_}
+use mathlib.Core.Path.{_≡_, sym, _∙_}
+use mathlib.Core.Bool.{Bool, _&&_}
 use mathlib.Core.List.{List}
 use lib.Count.{ones}
 use lib.Dec.{T, eqb, ltb, lt→ltb}
 use lib.ListN.{length, getD}
+use Rattle.graph.specs.Limits.{wordsOf, mostVertices}
 use Rattle.graph.specs.Numbers.{many, tally}
 use Rattle.graph.specs.Pivot.{member}
 use Rattle.graph.specs.Sets.{bit, members}
 use Rattle.graph.proofs.Counts.{many-on}
 use Rattle.graph.proofs.Pivot.{member-in}
-use Rattle.graph.proofs.Sums.{tally-ext, tally-on, many-tally}
+use Rattle.graph.proofs.Sums.{tally-on}
 use Rattle.graph.proofs.Tests.{and-make, eq-T, cond-true, least-first}
-use Rattle.sets.proofs.Sizes.{member-bit, word-tally}
+use Rattle.sets.proofs.Sizes.{bits-many, size-many, word-tally}
 use Rattle.sets.proofs.Store.{bit-lt}
 use Rattle.pivot.specs.Place.{Within, From, Found}
 
@@ -36,51 +37,41 @@ at-place n p v j l t e h =
       | no s ↦ omega arith
     ]
 
-module _ (w : List ℕ) (n : ℕ) where
-  pub bits-many : (k : ℕ) → k ≤ n → tally (bit w) k ≡ many (members n w) k
-  bits-many k l = tally-ext (bit w) (λ v. cond (members n w v) 1 0) k (λ v h. sym (member-bit w n v (omega arith))) ∙ sym (many-tally (members n w) k)
-
-  pub bit-member : (v j : ℕ) → v < n → bit w v ≡ 1 → tally (bit w) v ≡ j → j < many (members n w) n → v ≡ member n (members n w) j
-  bit-member v j l e t h = at-place n (members n w) v j l (and-make (ltb v n) (eqb (bit w v) 1) (lt→ltb v n l) (eq-T (bit w v) 1 e)) (sym (bits-many v (omega arith)) ∙ t) h
+pub bit-member : {w : List ℕ} {n j v k r : ℕ} → Within w n j → Found w n v k r → tally (bit w) v + k ≡ j → r ≡ member n (members n w) j
+bit-member {w} {n} {j} {v} {k} {r} a f e =
+    at-place n (members n w) r j (f .low) (and-make (ltb r n) (eqb (bit w r) 1) (lt→ltb r n (f .low)) (eq-T (bit w r) 1 (f .is)))
+    (sym (bits-many w n r (omega (arith, f .low))) ∙ f .before ∙ e) (a .low)
 
 -- one bit more
 bits-next : (w : List ℕ) (v : ℕ) → tally (bit w) (v + 1) ≡ tally (bit w) v + bit w v
 unfolding tally
 bits-next w v = rw add-one
 
-module _ {w : List ℕ} {n v k : ℕ} (f : From w n v k) where
-  pub from-low : v < n
-  from-low = elim (decLt v n) as (λ _. v < n) [
-    | yes h ↦ h
-    | no h ↦ absurd (omega (arith, f .low, tally-on (bit w) n v (omega arith)))
-  ]
-
-  pub from-room : v < length w * 64
-  from-room = omega (arith, from-low, f .words)
-
-  -- the bit at v is passed over
-  pub from-next : bit w v ≤ k → From w n (v + 1) (k - bit w v)
-  from-next h = record { small = f .small; words = f .words; low = omega (arith, f .low, bits-next w v) }
-
-  pub next-sum : bit w v ≤ k → tally (bit w) (v + 1) + (k - bit w v) ≡ tally (bit w) v + k
-  next-sum h = omega (arith, bits-next w v)
-
-  -- the bit at v is the one sought
-  pub from-found : {u r : ℕ} → k < bit w v → tally (bit w) v + k ≡ tally (bit w) u + r → Found w n u r v
-  from-found h e = let l = bit-lt w v in record { low = from-low; is = omega arith; before = omega arith }
-
-module _ (i : ℕ) {w : List ℕ} {n k : ℕ} (f : From w n (i * 64) k) (fits : getD w i 0 < 2 ^ 64) where
-  -- word i is passed over
-  pub from-word : ones (getD w i 0) ≤ k → From w n ((i + 1) * 64) (k - ones (getD w i 0))
-  from-word h = record { small = f .small; words = f .words; low = omega (arith, f .low, word-tally w i fits) }
-
-  pub word-sum : ones (getD w i 0) ≤ k → tally (bit w) ((i + 1) * 64) + (k - ones (getD w i 0)) ≡ tally (bit w) (i * 64) + k
-  word-sum h = omega (arith, word-tally w i fits)
+from-make : {w : List ℕ} {n v k : ℕ} → n ≤ mostVertices → length w ≡ wordsOf n → tally (bit w) v + k < tally (bit w) n → From w n v k
+from-make {w} {n} {v} {k} s l h = record {
+  small = s;
+  words = l;
+  here = elim (decLt v n) as (λ _. v < n) [
+    | yes q ↦ q
+    | no q ↦ absurd (omega (arith, tally-on (bit w) n v (omega arith)))
+  ];
+  low = h;
+}
 
 pub from-begin : {w : List ℕ} {n j : ℕ} → Within w n j → From w n (0 * 64) j
 unfolding tally
-from-begin {w} {n} {j} h = record { small = h .small; words = h .words; low = omega (arith, h .low, bits-many w n n (omega arith)) }
+from-begin {w} {n} {j} h = from-make (h .small) (h .words) (omega (arith, h .low, size-many w n))
 
-pub none-before : (w : List ℕ) → tally (bit w) (0 * 64) ≡ 0
-unfolding tally
-none-before w = refl
+module _ {w : List ℕ} {n v k s : ℕ} (f : From w n v k) (e : tally (bit w) v + k ≡ s) where
+  -- the bit at v is passed over
+  pub from-next : bit w v ≤ k → From w n (v + 1) (k - bit w v) × (tally (bit w) (v + 1) + (k - bit w v) ≡ s)
+  from-next h = (from-make (f .small) (f .words) (omega (arith, f .low, bits-next w v)), omega (arith, bits-next w v))
+
+  -- the bit at v is the one sought
+  pub from-found : {u r : ℕ} → s ≡ tally (bit w) u + r → k < bit w v → Found w n u r v
+  from-found q h = let l = bit-lt w v in record { low = f .here; is = omega arith; before = omega arith }
+
+-- word i is passed over
+pub from-word : {w : List ℕ} {n k s : ℕ} (i : ℕ) → getD w i 0 < 2 ^ 64 → From w n (i * 64) k → tally (bit w) (i * 64) + k ≡ s → ones (getD w i 0) ≤ k
+    → From w n ((i + 1) * 64) (k - ones (getD w i 0)) × (tally (bit w) ((i + 1) * 64) + (k - ones (getD w i 0)) ≡ s)
+from-word {w} i fits f e h = (from-make (f .small) (f .words) (omega (arith, f .low, word-tally w i fits)), omega (arith, word-tally w i fits))

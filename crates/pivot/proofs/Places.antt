@@ -1,5 +1,5 @@
 -- Filling the order: one vertex placed, and the end.
-use Prim.Native.Nat.{ℕ, zero, suc, _+_, _≤_, _<_}
+use Prim.Native.Nat.{ℕ, _+_, _≤_, _<_}
 use native.Mathlib.Omega.{arith}
 use native.Mathlib.Decide.{decLt, ℕ-discrete}
 use native.Mathlib.Nat.{not-suc-le-zero}
@@ -10,20 +10,20 @@ use mathlib.Core.List.{List, [], _∷_}
 use lib.ListN.{length, getD, set, drop, length-set}
 use lib.Seq.{drop-cons, drop-length, getD-set-same, getD-set-other}
 use lib.Dec.{T, eqb, ltb, eqb→eq, lt→ltb, ltb→lt}
-use Rattle.graph.specs.Memory.{Framed}
+use Rattle.memory.specs.Memory.{Framed, Put}
+use Rattle.memory.specs.Decomposer.{orderAt, ord}
 use Rattle.graph.specs.Numbers.{least, many}
 use Rattle.graph.specs.Pivot.{listed}
-use Rattle.graph.proofs.Memory.{framed-none}
-use Rattle.graph.proofs.Counts.{many-le, many-mono, many-more, many-one}
+use Rattle.graph.proofs.Counts.{many-all, many-none, many-le, many-mono, many-more, many-one}
 use Rattle.graph.proofs.Pivot.{lowest-in}
 use Rattle.graph.proofs.Tests.{and-l, and-r, and-make, eq-T, cond-true, cond-false, least-first, least-passes}
-use Rattle.pivot.specs.Order.{orderAt, order, Arranged, Beside, Ordered}
-use Rattle.pivot.specs.Placing.{marked, Room, Placed, outside, again, placed, Filling, Leads, Listing, Filled}
+use Rattle.pivot.specs.Order.{Arranged, Beside, Ordered}
+use Rattle.pivot.specs.Placing.{marked, Room, Placed, outside, again, placed, Filling, Leads, Listing, AllPlaced}
 
-pub beside-none : (b n : ℕ) (w : List ℕ) → Beside b n w w
-beside-none b n w = record { long = refl; low = λ j h. refl; between = λ j h k. refl; high = λ j h. refl }
+pub beside-none : (n b : ℕ) (w : List ℕ) → Beside n b w w
+beside-none n b w = record { long = refl; low = λ j h. refl; between = λ j h k. refl; high = λ j h. refl }
 
-pub beside-more : {b n : ℕ} {w w₁ w₂ : List ℕ} → Beside b n w w₁ → Beside b n w₁ w₂ → Beside b n w w₂
+pub beside-more : {b n : ℕ} {w w₁ w₂ : List ℕ} → Beside n b w w₁ → Beside n b w₁ w₂ → Beside n b w w₂
 beside-more f g =
     record {
       long = g .long ∙ f .long;
@@ -32,27 +32,21 @@ beside-more f g =
       high = λ j h. g .high j h ∙ f .high j h;
     }
 
-pub beside-framed : {b n : ℕ} {w w' : List ℕ} → Framed b (b + n) w w' → Beside b n w w'
+pub beside-framed : {b n : ℕ} {w w' : List ℕ} → Framed b (b + n) w w' → Beside n b w w'
 beside-framed {b} {n} f = record { long = f .long; low = f .low; between = λ j h k. f .high j h; high = λ j h. f .high j (omega arith) }
-
--- all numbers below n pass a test that always holds
-every : (n : ℕ) → many (λ v. true) n ≡ n
-unfolding many
-every zero = refl
-every (suc n) = omega (arith, every n)
 
 module _ {n k : ℕ} {mark ord : ℕ → ℕ} (f : Filling n k mark ord) where
   -- where a vertex is not marked, a place is free
   pub filling-free : (v : ℕ) → v < n → mark v ≡ 0 → k < n
   filling-free v l e =
       let more : many (λ u. eqb (mark u) 1) n < many (λ u. true) n = many-more (λ u. eqb (mark u) 1) (λ u. true) n (λ i m t. tt) v l (λ t. omega (arith, eqb→eq (mark v) 1 t)) tt in
-      omega (arith, f .size, every n)
+      omega (arith, f .size, many-all n)
 
   -- all marked: all places are filled
   pub filling-full : ((v : ℕ) → v < n → mark v ≡ 1) → k ≡ n
   filling-full h =
       let all : many (λ u. true) n ≤ many (λ u. eqb (mark u) 1) n = many-mono (λ u. true) (λ u. eqb (mark u) 1) n (λ i m t. eq-T (mark i) 1 (h i m)) in
-      omega (arith, f .size, every n, many-le (λ u. eqb (mark u) 1) n)
+      omega (arith, f .size, many-all n, many-le (λ u. eqb (mark u) 1) n)
 
   pub filling-more : (mark' ord' : ℕ → ℕ) (v : ℕ) → v < n → mark v ≡ 0
       → mark' v ≡ 1 → ((u : ℕ) → u < n → (u ≡ v → ⊥) → mark' u ≡ mark u)
@@ -145,17 +139,17 @@ module _ {n k : ℕ} {list : List ℕ} {ord : ℕ → ℕ} {rest rest' : (ℕ �
           sym (cond-false (ltb v n && p v) v (rest' p) (λ t. none k (omega arith) (subst (λ (u : ℕ). T (p u)) (sym o) (and-r (ltb v n) (p v) t)))) ∙ sym (turn p all) ∙ d .miss p all
 
 -- what placing v leaves
-pub record Step (b n k v : ℕ) (w w' : List ℕ) (r : ℕ) : Type 0 where
-  pub beside : Beside b n w w'
-  pub filling : Filling n r (marked b w') (order b n w')
+pub record Step (n b k v : ℕ) (w w' : List ℕ) (r : ℕ) : Type 0 where
+  pub beside : Beside n b w w'
+  pub filling : Filling n r (marked b w') (ord n b w')
   pub here : v < n → marked b w' v ≡ 1
   pub kept : (u : ℕ) → u < n → marked b w u ≡ 1 → marked b w' u ≡ 1
-  pub leads : (list : List ℕ) (rest rest' : (ℕ → Bool) → ℕ) → Turn n k (order b n w) v rest rest' → Leads n list k (order b n w) rest → Leads n list r (order b n w') rest'
+  pub leads : (list : List ℕ) (rest rest' : (ℕ → Bool) → ℕ) → Turn n k (ord n b w) v rest rest' → Leads n list k (ord n b w) rest → Leads n list r (ord n b w') rest'
 
-pub place-step : {b n k v : ℕ} {w w' : List ℕ} {r : ℕ} → Room b n w → Filling n k (marked b w) (order b n w) → Placed b n k v w w' r → Step b n k v w w' r
+pub place-step : {b n k v : ℕ} {w w' : List ℕ} {r : ℕ} → Room n b w → Filling n k (marked b w) (ord n b w) → Placed n b k v w w' r → Step n b k v w w' r
 place-step {b} {n} {k} {v} {w} room f (outside h) =
     record {
-      beside = beside-none b n w;
+      beside = beside-none n b w;
       filling = f;
       here = λ l. absurd (omega arith);
       kept = λ u l e. e;
@@ -164,7 +158,7 @@ place-step {b} {n} {k} {v} {w} room f (outside h) =
 place-step {b} {n} {k} {v} {w} room f (again h m) =
     let is : marked b w v ≡ 1 = omega (arith, f .binary v h) in
     record {
-      beside = beside-none b n w;
+      beside = beside-none n b w;
       filling = f;
       here = λ l. is;
       kept = λ u l e. e;
@@ -178,38 +172,38 @@ place-step {b} {n} {k} {v} {w} room f (placed h z) =
         between = λ j l m. else j (λ e. omega arith) (λ e. omega arith);
         high = λ j l. else j (λ e. omega arith) (λ e. omega (arith, free));
       };
-      filling = filling-more f (marked b w₂) (order b n w₂) v h z here others there before;
+      filling = filling-more f (marked b w₂) (ord n b w₂) v h z here others there before;
       here = λ l. here;
       kept = λ u l e. elim (ℕ-discrete u v) as (λ _. marked b w₂ u ≡ 1) [
         | yes q ↦ ap (marked b w₂) q ∙ here
         | no d ↦ others u l d ∙ e
       ];
-      leads = λ list rest rest' turn d. leads-more d v turn (order b n w₂) h there before;
+      leads = λ list rest rest' turn d. leads-more d v turn (ord n b w₂) h there before;
     }
   where
     w₁ : List ℕ
     w₁ = set w (b + v) 1
 
     w₂ : List ℕ
-    w₂ = set w₁ (orderAt b n + k) v
+    w₂ = set w₁ (orderAt n b + k) v
 
     free : k < n
     free = filling-free f v h z
 
-    else : (j : ℕ) → (j ≡ b + v → ⊥) → (j ≡ orderAt b n + k → ⊥) → getD w₂ j 0 ≡ getD w j 0
-    else j p q = getD-set-other w₁ (orderAt b n + k) j v 0 q ∙ getD-set-other w (b + v) j 1 0 p
+    else : (j : ℕ) → (j ≡ b + v → ⊥) → (j ≡ orderAt n b + k → ⊥) → getD w₂ j 0 ≡ getD w j 0
+    else j p q = getD-set-other w₁ (orderAt n b + k) j v 0 q ∙ getD-set-other w (b + v) j 1 0 p
 
     here : marked b w₂ v ≡ 1
-    here = getD-set-other w₁ (orderAt b n + k) (b + v) v 0 (λ e. omega arith) ∙ getD-set-same w (b + v) 1 0 (omega (arith, room .fits))
+    here = getD-set-other w₁ (orderAt n b + k) (b + v) v 0 (λ e. omega arith) ∙ getD-set-same w (b + v) 1 0 (omega (arith, room .fits))
 
     others : (u : ℕ) → u < n → (u ≡ v → ⊥) → marked b w₂ u ≡ marked b w u
     others u l d = else (b + u) (λ e. d (omega arith)) (λ e. omega arith)
 
-    there : order b n w₂ k ≡ v
-    there = getD-set-same w₁ (orderAt b n + k) v 0 (omega (arith, free, room .fits, length-set w (b + v) 1))
+    there : ord n b w₂ k ≡ v
+    there = getD-set-same w₁ (orderAt n b + k) v 0 (omega (arith, free, room .fits, length-set w (b + v) 1))
 
-    before : (i : ℕ) → i < k → order b n w₂ i ≡ order b n w i
-    before i l = else (orderAt b n + i) (λ e. omega arith) (λ e. omega arith)
+    before : (i : ℕ) → i < k → ord n b w₂ i ≡ ord n b w i
+    before i l = else (orderAt n b + i) (λ e. omega arith) (λ e. omega arith)
 
 -- the list's own turn
 pub listed-turn : (n k : ℕ) (ord : ℕ → ℕ) (a : ℕ) (l : List ℕ) → Turn n k ord a (λ p. listed n p (a ∷ l)) (λ p. listed n p l)
@@ -239,12 +233,6 @@ rising-turn {n} {k} {mark} {ord} f v l below p none = go (ltb v n && p v) (λ t.
 pub leads-none : (n : ℕ) (list : List ℕ) (ord : ℕ → ℕ) → Leads n list 0 ord (λ p. listed n p list)
 leads-none n list ord = record { hit = λ p i h. absurd (not-suc-le-zero h); miss = λ p none. refl }
 
--- nobody passes
-nobody : (p : ℕ → Bool) (m : ℕ) → ((v : ℕ) → v < m → T (p v) → ⊥) → many p m ≡ 0
-unfolding many
-nobody p zero h = refl
-nobody p (suc m) h = rw (cond-false {A = ℕ} (p m) 1 0 (h m (omega arith))) (omega (arith, nobody p m (λ v l. h v (omega arith))))
-
 pub filling-none : (n : ℕ) (mark ord : ℕ → ℕ) → ((v : ℕ) → v < n → mark v ≡ 0) → Filling n 0 mark ord
 filling-none n mark ord z =
     record {
@@ -253,7 +241,7 @@ filling-none n mark ord z =
       inside = λ i h. absurd (not-suc-le-zero h);
       out = λ v l e. absurd (omega (arith, z v l));
       binary = λ v l. omega (arith, z v l);
-      size = nobody (λ v. eqb (mark v) 1) n (λ v l t. omega (arith, z v l, eqb→eq (mark v) 1 t));
+      size = many-none (λ v. eqb (mark v) 1) n (λ v l t. omega (arith, z v l, eqb→eq (mark v) 1 t));
     }
 
 pub leads-all : {n k : ℕ} {list : List ℕ} {mark ord : ℕ → ℕ} → Filling n k mark ord → ((v : ℕ) → v < n → mark v ≡ 1) → Leads n list k ord (least n) → Arranged n list ord
@@ -272,42 +260,20 @@ leads-all {n} {k} {list} {mark} {ord} f all d =
         let (m, s) = lowest-in n (λ j. p (ord j)) i (omega (arith, full)) (subst (λ (u : ℕ). T (p u)) (sym e) t) in
         d .hit p (least n (λ j. p (ord j))) (omega (arith, full)) s (λ j h u. omega (arith, least-first n (λ j. p (ord j)) j (omega arith) u))
 
--- the marks below v are cleared
-pub record Clearing (b v : ℕ) (w w' : List ℕ) : Type 0 where
-  pub framed : Framed b (b + v) w w'
-  pub zero : (u : ℕ) → u < v → marked b w' u ≡ 0
-
-pub clearing-none : (b : ℕ) (w : List ℕ) → Clearing b 0 w w
-clearing-none b w = record { framed = framed-none b (b + 0) w; zero = λ u l. absurd (not-suc-le-zero l) }
-
-pub clearing-step : {b v : ℕ} {w w' : List ℕ} → b + v < length w' → Clearing b v w w' → Clearing b (v + 1) w (set w' (b + v) 0)
-clearing-step {b} {v} {w} {w'} l c =
-    record {
-      framed = record {
-        long = length-set w' (b + v) 0 ∙ c .framed .long;
-        low = λ j h. getD-set-other w' (b + v) j 0 0 (λ e. omega arith) ∙ c .framed .low j h;
-        high = λ j h. getD-set-other w' (b + v) j 0 0 (λ e. omega arith) ∙ c .framed .high j (omega arith);
-      };
-      zero = λ u h. elim (ℕ-discrete u v) as (λ _. marked b (set w' (b + v) 0) u ≡ 0) [
-        | yes e ↦ ap (λ (x : ℕ). getD (set w' (b + v) 0) (b + x) 0) e ∙ getD-set-same w' (b + v) 0 0 l
-        | no d ↦ getD-set-other w' (b + v) (b + u) 0 0 (λ e. d (omega arith)) ∙ c .zero u (omega arith)
-      ];
-    }
-
-pub room-kept : {b n : ℕ} {w w' : List ℕ} → length w' ≡ length w → Room b n w → Room b n w'
+pub room-kept : {b n : ℕ} {w w' : List ℕ} → length w' ≡ length w → Room n b w → Room n b w'
 room-kept e r = record { small = r .small; fits = omega (arith, r .fits) }
 
 -- the first i entries of the list have their places
-pub record Listed (b n : ℕ) (list : List ℕ) (i k : ℕ) (w w' : List ℕ) : Type 0 where
-  pub room : Room b n w'
-  pub beside : Beside b n w w'
-  pub filling : Filling n k (marked b w') (order b n w')
-  pub leads : Leads n list k (order b n w') (λ p. listed n p (drop i list))
+pub record Listed (n b : ℕ) (list : List ℕ) (i k : ℕ) (w w' : List ℕ) : Type 0 where
+  pub room : Room n b w'
+  pub beside : Beside n b w w'
+  pub filling : Filling n k (marked b w') (ord n b w')
+  pub leads : Leads n list k (ord n b w') (λ p. listed n p (drop i list))
 
-pub listed-begin : {b n : ℕ} {w : List ℕ} (list : List ℕ) → Room b n w → ((v : ℕ) → v < n → marked b w v ≡ 0) → Listed b n list 0 0 w w
-listed-begin {b} {n} {w} list room z = record { room = room; beside = beside-none b n w; filling = filling-none n (marked b w) (order b n w) z; leads = leads-none n list (order b n w) }
+pub listed-begin : {b n : ℕ} {w : List ℕ} (list : List ℕ) → Room n b w → ((v : ℕ) → v < n → marked b w v ≡ 0) → Listed n b list 0 0 w w
+listed-begin {b} {n} {w} list room z = record { room = room; beside = beside-none n b w; filling = filling-none n (marked b w) (ord n b w) z; leads = leads-none n list (ord n b w) }
 
-pub listed-step : {b n : ℕ} {list : List ℕ} {i k : ℕ} {w w₁ w₂ : List ℕ} {r : ℕ} → i < length list → Listed b n list i k w w₁ → Placed b n k (getD list i 0) w₁ w₂ r → Listed b n list (i + 1) r w w₂
+pub listed-step : {b n : ℕ} {list : List ℕ} {i k : ℕ} {w w₁ w₂ : List ℕ} {r : ℕ} → i < length list → Listed n b list i k w w₁ → Placed n b k (getD list i 0) w₁ w₂ r → Listed n b list (i + 1) r w w₂
 listed-step {b} {n} {list} {i} {k} {w} {w₁} {w₂} {r} l s p =
     let t = place-step (s .room) (s .filling) p in
     let e : drop i list ≡ getD list i 0 ∷ drop (i + 1) list = rw add-one (drop-cons list i 0 l) in
@@ -315,25 +281,27 @@ listed-step {b} {n} {list} {i} {k} {w} {w₁} {w₂} {r} l s p =
       room = room-kept (t .beside .long) (s .room);
       beside = beside-more (s .beside) (t .beside);
       filling = t .filling;
-      leads = t .leads list (λ p. listed n p (drop i list)) (λ p. listed n p (drop (i + 1) list)) (rw e (listed-turn n k (order b n w₁) (getD list i 0) (drop (i + 1) list))) (s .leads);
+      leads = t .leads list (λ p. listed n p (drop i list)) (λ p. listed n p (drop (i + 1) list)) (rw e (listed-turn n k (ord n b w₁) (getD list i 0) (drop (i + 1) list))) (s .leads);
     }
 
-pub listed-all : {b n : ℕ} {list : List ℕ} {k : ℕ} {w w' : List ℕ} → Listed b n list (length list) k w w' → Listing b n list w w' k
-listed-all {b} {n} {list} {k} {w} {w'} s =
-    record { beside = s .beside; filling = s .filling; leads = record { hit = s .leads .hit; miss = λ p none. sym (listed-end n p) ∙ ap (listed n p) (sym (drop-length list)) ∙ s .leads .miss p none } }
+pub listed-all : {b n i k : ℕ} {list w w' : List ℕ} → i ≤ length list → length list ≤ i → Listed n b list i k w w' → Listing n b list w w' k
+listed-all {n = n} {i = i} {list = list} l h s =
+    let e : i ≡ length list = omega arith in
+    let none-left : drop i list ≡ [] = rw e (drop-length list) in
+    record { beside = s .beside; filling = s .filling; leads = record { hit = s .leads .hit; miss = λ p none. sym (listed-end n p) ∙ ap (listed n p) (sym none-left) ∙ s .leads .miss p none } }
 
 -- the vertices below v have their places, after whatever list led here
-pub record Rising (b n k₀ v k : ℕ) (w w' : List ℕ) : Type 0 where
-  pub room : Room b n w'
-  pub beside : Beside b n w w'
-  pub filling : Filling n k (marked b w') (order b n w')
+pub record Rising (n b k₀ v k : ℕ) (w w' : List ℕ) : Type 0 where
+  pub room : Room n b w'
+  pub beside : Beside n b w w'
+  pub filling : Filling n k (marked b w') (ord n b w')
   pub below : (u : ℕ) → u < v → marked b w' u ≡ 1
-  pub leads : (list : List ℕ) → Leads n list k₀ (order b n w) (least n) → Leads n list k (order b n w') (least n)
+  pub leads : (list : List ℕ) → Leads n list k₀ (ord n b w) (least n) → Leads n list k (ord n b w') (least n)
 
-pub rising-begin : {b n k : ℕ} {w : List ℕ} → Room b n w → Filling n k (marked b w) (order b n w) → Rising b n k 0 k w w
-rising-begin {b} {n} {k} {w} room f = record { room = room; beside = beside-none b n w; filling = f; below = λ u l. absurd (not-suc-le-zero l); leads = λ list d. d }
+pub rising-begin : {b n k : ℕ} {w : List ℕ} → Room n b w → Filling n k (marked b w) (ord n b w) → Rising n b k 0 k w w
+rising-begin {b} {n} {k} {w} room f = record { room = room; beside = beside-none n b w; filling = f; below = λ u l. absurd (not-suc-le-zero l); leads = λ list d. d }
 
-pub rising-step : {b n k₀ v k : ℕ} {w w₁ w₂ : List ℕ} {r : ℕ} → v < n → Rising b n k₀ v k w w₁ → Placed b n k v w₁ w₂ r → Rising b n k₀ (v + 1) r w w₂
+pub rising-step : {b n k₀ v k : ℕ} {w w₁ w₂ : List ℕ} {r : ℕ} → v < n → Rising n b k₀ v k w w₁ → Placed n b k v w₁ w₂ r → Rising n b k₀ (v + 1) r w w₂
 rising-step {b} {n} {k₀} {v} {k} {w} {w₁} {w₂} {r} l s p =
     let t = place-step (s .room) (s .filling) p in
     record {
@@ -347,30 +315,8 @@ rising-step {b} {n} {k₀} {v} {k} {w} {w₁} {w₂} {r} l s p =
       leads = λ list d. t .leads list (least n) (least n) (rising-turn (s .filling) v l (s .below)) (s .leads list d);
     }
 
-pub rising-all : {b n k₀ k : ℕ} {w w' : List ℕ} → Rising b n k₀ n k w w' → Filled b n k₀ w w'
-rising-all s = record { beside = s .beside; order = λ list d. leads-all (s .filling) (s .below) (s .leads list d) }
-
--- the first i places hold their own numbers
-pub record Plain (b n i : ℕ) (w w' : List ℕ) : Type 0 where
-  pub framed : Framed (orderAt b n) (orderAt b n + i) w w'
-  pub own : (j : ℕ) → j < i → order b n w' j ≡ j
-
-pub plain-none : (b n : ℕ) (w : List ℕ) → Plain b n 0 w w
-plain-none b n w = record { framed = framed-none (orderAt b n) (orderAt b n + 0) w; own = λ j l. absurd (not-suc-le-zero l) }
-
-pub plain-step : {b n i : ℕ} {w w' : List ℕ} → orderAt b n + i < length w' → Plain b n i w w' → Plain b n (i + 1) w (set w' (orderAt b n + i) i)
-plain-step {b} {n} {i} {w} {w'} l c =
-    record {
-      framed = record {
-        long = length-set w' (orderAt b n + i) i ∙ c .framed .long;
-        low = λ j h. getD-set-other w' (orderAt b n + i) j i 0 (λ e. omega arith) ∙ c .framed .low j h;
-        high = λ j h. getD-set-other w' (orderAt b n + i) j i 0 (λ e. omega arith) ∙ c .framed .high j (omega arith);
-      };
-      own = λ j h. elim (ℕ-discrete j i) as (λ _. order b n (set w' (orderAt b n + i) i) j ≡ j) [
-        | yes e ↦ ap (order b n (set w' (orderAt b n + i) i)) e ∙ getD-set-same w' (orderAt b n + i) i 0 l ∙ sym e
-        | no d ↦ getD-set-other w' (orderAt b n + i) (orderAt b n + j) i 0 (λ e. d (omega arith)) ∙ c .own j (omega arith)
-      ];
-    }
+pub rising-all : {b n k₀ v k : ℕ} {w w' : List ℕ} → n ≤ v → Rising n b k₀ v k w w' → AllPlaced n b k₀ w w'
+rising-all l s = record { beside = s .beside; order = λ list d. leads-all (s .filling) (λ v h. s .below v (omega arith)) (s .leads list d) }
 
 -- the rising order is the order of no list
 pub arranged-plain : {n : ℕ} {ord : ℕ → ℕ} → ((i : ℕ) → i < n → ord i ≡ i) → Arranged n [] ord
@@ -384,9 +330,9 @@ arranged-plain {n} {ord} own = record { low = λ i l. omega (arith, own i l); on
         let down : least n (λ i. p (ord i)) ≤ least n p = least-first n (λ i. p (ord i)) (least n p) m' (subst (λ (u : ℕ). T (p u)) (sym (own (least n p) m')) s') in
         omega (arith, own (least n (λ i. p (ord i))) m, up, down, listed-end n p)
 
-pub plain-all : {b n : ℕ} {w w' : List ℕ} → Plain b n n w w' → Ordered n [] b w w'
-plain-all {b} {n} c =
+pub counted-ordered : {n b : ℕ} {w w' : List ℕ} → Put (orderAt n b) n (λ i. i + 0) w w' → Ordered n [] b w w'
+counted-ordered {n} {b} {w} {w'} p =
     record {
-      order = arranged-plain (c .own);
-      beside = record { long = c .framed .long; low = λ j h. c .framed .low j (omega arith); between = λ j h k. c .framed .low j k; high = c .framed .high };
+      order = arranged-plain {ord = ord n b w'} (λ i l. p .each i l ∙ omega arith);
+      beside = record { long = p .framed .long; low = λ j h. p .framed .low j (omega arith); between = λ j h k. p .framed .low j k; high = p .framed .high };
     }

@@ -1,5 +1,5 @@
 -- Places of a set, counted from 0 in rising order.
-use Prim.Native.Nat.{ℕ, _+_, _*_, _<_, _≤_}
+use Prim.Native.Nat.{ℕ, _+_, _<_, _≤_}
 use mathlib.Core.Path.{_≡_}
 use mathlib.Core.List.{List}
 use lib.ListN.{length}
@@ -13,10 +13,11 @@ pub record Within (w : List ℕ) (n j : ℕ) : Type 0 where
   pub words : length w ≡ wordsOf n
   pub low : j < many (members n w) n
 
--- from v on the set has more than k members below n
+-- from v on, which is below n, the set has more than k members below n
 pub record From (w : List ℕ) (n v k : ℕ) : Type 0 where
   pub small : n ≤ mostVertices
   pub words : length w ≡ wordsOf n
+  pub here : v < n
   pub low : tally (bit w) v + k < tally (bit w) n
 
 -- r is a member, and k members stand from v on below it

@@ -1,8 +1,7 @@
 // The chooser: a kind of pivot and a 32-bit state, lent by `&mut`.
 ghost use mathlib.Core.Path.{_≡_};
 ghost use Prim.Native.Nat.{_*_, _%_, _^_};
-ghost use Rattle.graph.specs.Pivot.{draw as drawn, draws as drawn·times};
-ghost use Rattle.pivot.specs.Chosen.{Drawn, Advanced};
+ghost use Rattle.graph.specs.Pivot.{draw as drawn};
 
 #[repr(C)]
 pub struct Chooser {
@@ -31,22 +30,9 @@ pub fn copy(c: &mut Chooser) -> Chooser
     *c
 }
 
-// One draw: the chooser is advanced where it stands.
-pub fn draw(c: &mut Chooser) -> u32
-    ensures { λ r. ⌜ Drawn r (now (c .entry)) (now (c .exit)) ⌝ }
+// The chooser becomes x.
+pub fn put(c: &mut Chooser, x: Chooser)
+    ensures { λ _. ⌜ now (c .exit) ≡ x ⌝ }
 {
-    let s = next(c.state);
-    c.state = s;
-    s
-}
-
-// k draws.
-pub fn draws(c: &mut Chooser, k: usize)
-    ensures { λ _. ⌜ Advanced k (now (c .entry)) (now (c .exit)) ⌝ }
-{
-    let mut left = k;
-    while 0 < left {
-        left = left - 1;
-        draw(c);
-    }
+    *c = x;
 }

@@ -4,7 +4,7 @@ ghost use Prim.Native.Nat.{_<_};
 ghost use lib.ListN.{length, set, getD};
 ghost use Rattle.waiting.specs.Records.{none};
 
-// A waiting part: its lowest vertex, and 1 if method 1 has still to slice it.
+// A waiting part: its first place in the order, and 1 if method 1 has still to slice it.
 #[repr(C)]
 pub struct Part {
     pub first: u32,
@@ -19,15 +19,10 @@ pub fn put(parts: &mut [Part], i: usize, p: Part)
     parts[i] = p;
 }
 
-// Takes the record at place i out, and leaves zeros there.
-pub fn take(parts: &mut [Part], i: usize) -> Part
+// The record at place i.
+pub fn at(parts: &mut [Part], i: usize) -> Part
     requires { ⌜ i < length (now parts) ⌝ }
-    ensures { λ r. ⌜ (r ≡ getD (now (parts .entry)) i none) × (now (parts .exit) ≡ set (now (parts .entry)) i none) ⌝ }
+    ensures { λ r. ⌜ (r ≡ getD (now (parts .entry)) i none) × (now (parts .exit) ≡ now (parts .entry)) ⌝ }
 {
-    let p = parts[i];
-    parts[i] = Part {
-        first: 0,
-        slicing: 0,
-    };
-    p
+    parts[i]
 }

@@ -51,7 +51,8 @@ same-length-2 c = search needs
 returns-3 : tie.Need-returns-3
 returns-3 c =
     let at-first = c .before in
-    let at-start = at-first .before .before .before .before .before in
+    let aimed-at = at-first .before in
+    let at-start = aimed-at .before .before .before .before in
     let at-if2 = at-start .before .before .before in
     let at-if1 = at-if2 .before in
     let at-refusal = at-if1 .before in

@@ -34,19 +34,19 @@ returns-4 c = rw (pass (c .before .before .before .before), eq-eqb _ _ (c .befor
 
 returns-5 : tie.Need-returns-5
 unfolding refusalOf given _or_
-returns-5 c = rw (pass (c .before .before .before .before .before), eq-eqb _ _ (c .before .before .before .before .if2 .left), sym (c .before .before .before .lacking .ensures) ∙ c .before .before .if3 .left, le-ltb _ _ (c .before .if4 .left), lt-ltb _ _ (c .if5 .taken))
+returns-5 c = let e = c .before .before in rw (pass (e .before .before .before), eq-eqb _ _ (e .before .before .if2 .left), sym (e .before .lacking .ensures) ∙ e .if3 .left, le-ltb _ _ (c .before .if4 .left), lt-ltb _ _ (c .if5 .taken))
 
 returns-6 : tie.Need-returns-6
 unfolding refusalOf given _or_
-returns-6 c = rw (pass (c .before .before .before .before .before .before), eq-eqb _ _ (c .before .before .before .before .before .if2 .left), sym (c .before .before .before .before .lacking .ensures) ∙ c .before .before .before .if3 .left, le-ltb _ _ (c .before .before .if4 .left), le-ltb _ _ (c .before .if5 .left), lt-ltb _ _ (c .if6 .taken))
+returns-6 c = let e = c .before .before .before in rw (pass (e .before .before .before), eq-eqb _ _ (e .before .before .if2 .left), sym (e .before .lacking .ensures) ∙ e .if3 .left, le-ltb _ _ (c .before .before .if4 .left), le-ltb _ _ (c .before .if5 .left), lt-ltb _ _ (c .if6 .taken))
 
 returns-7 : tie.Need-returns-7
 unfolding refusalOf given _or_
-returns-7 c = rw (pass (c .before .before .before .before .before .before .before), eq-eqb _ _ (c .before .before .before .before .before .before .if2 .left), sym (c .before .before .before .before .before .lacking .ensures) ∙ c .before .before .before .before .if3 .left, le-ltb _ _ (c .before .before .before .if4 .left), le-ltb _ _ (c .before .before .if5 .left), le-ltb _ _ (c .before .if6 .left), lt-ltb _ _ (c .if7 .taken))
+returns-7 c = let e = c .before .before .before .before in rw (pass (e .before .before .before), eq-eqb _ _ (e .before .before .if2 .left), sym (e .before .lacking .ensures) ∙ e .if3 .left, le-ltb _ _ (c .before .before .before .if4 .left), le-ltb _ _ (c .before .before .if5 .left), le-ltb _ _ (c .before .if6 .left), lt-ltb _ _ (c .if7 .taken))
 
 returns-8 : tie.Need-returns-8
 unfolding refusalOf given _or_
-returns-8 c = rw (pass (c .before .before .before .before .before .before .before), eq-eqb _ _ (c .before .before .before .before .before .before .if2 .left), sym (c .before .before .before .before .before .lacking .ensures) ∙ c .before .before .before .before .if3 .left, le-ltb _ _ (c .before .before .before .if4 .left), le-ltb _ _ (c .before .before .if5 .left), le-ltb _ _ (c .before .if6 .left), le-ltb _ _ (c .if7 .left))
+returns-8 c = let e = c .before .before .before .before in rw (pass (e .before .before .before), eq-eqb _ _ (e .before .before .if2 .left), sym (e .before .lacking .ensures) ∙ e .if3 .left, le-ltb _ _ (c .before .before .before .if4 .left), le-ltb _ _ (c .before .before .if5 .left), le-ltb _ _ (c .before .if6 .left), le-ltb _ _ (c .if7 .left))
 
 pub refusal-spec : {M : Type 1} → statement M
 refusal-spec =

@@ -4,8 +4,16 @@ use borrow.Author.Needs.{needs}
 use Rattle.decompose.proofs.finish.finish.Statement.{statement}
 use Rattle.decompose.proofs.finish.finish.Tie as tie
 
-room : (c : tie.Else1) → Room (c .before .before .before .before .args .n) (c .before .before .before .before .args .edges) (c .before .before .before .before .args .label .now) (c .before .before .before .before .args .numbers .now) (c .before .before .before .before .args .words .now)
-room c = c .before .before .before .before .pre .room (c .if1 .left)
+-- where the function begins, as the place after the test sees it
+abbrev start-of : tie.Else1 → tie.Start
+start-of c = c .before .before .before .before
+
+room : (c : tie.Else1) → Room (start-of c .args .n) (start-of c .args .edges) (start-of c .args .label .now) (start-of c .args .numbers .now) (start-of c .args .words .now)
+room c = start-of c .pre .room (c .if1 .left)
+
+-- the place after the test, as the place after the copy sees it
+abbrev else-of : tie.After-copy → tie.Else1
+else-of c = c .before .before .before
 
 returns : tie.Need-returns
 returns c = refusing (c .if1 .taken)
@@ -23,7 +31,7 @@ copy-requires : tie.Need-copy-requires
 copy-requires c κs = let r = room (c .before .before) in omega (arith, r .label, r .memory .enough .numbers)
 
 clear-requires : tie.Need-clear-requires
-clear-requires c κs = room (c .before .before .before .before .before .before .before) .memory
+clear-requires c κs = room (else-of (c .before .before .before .before)) .memory
 
 same-length : tie.Need-same-length
 same-length c = search needs
@@ -35,7 +43,11 @@ same-length-3 : tie.Need-same-length-3
 same-length-3 c = search needs
 
 returns-2 : tie.Need-returns-2
-returns-2 c = let at-copy = c .before .before .before .before .before .before .before .before .before in doing (at-copy .before .before .before .if1 .left) (at-copy .copy .ensures) (c .before .before .before .before .clear .ensures)
+returns-2 c =
+    let at-clear = c .before .before .before .before in
+    let given = at-clear .before in
+    let at-copy = given .before .before .before .before in
+    doing (else-of at-copy .if1 .left) (at-copy .copy .ensures) (at-clear .clear .ensures)
 
 pub finish-spec : {M : Type 1} → statement M
 finish-spec =

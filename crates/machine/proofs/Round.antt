@@ -1,4 +1,4 @@
--- A ring of n places.
+-- Going round over n places.
 use Prim.Native.Nat.{ℕ, _+_, _-_, _≤_, _<_}
 use native.Mathlib.Omega.{arith}
 use native.Mathlib.Decide.{decLt}
@@ -31,7 +31,7 @@ wrapped-same n x l = go (wrapped-is n x)
     go (inl (h, e)) = e
     go (inr (h, e)) = absurd (omega arith)
 
--- different places of a ring are different
+-- different places are different
 pub wrapped-one : (n o i j : ℕ) → o < n → i < n → j < n → wrapped n (o + i) ≡ wrapped n (o + j) → i ≡ j
 wrapped-one n o i j l a b q = go (wrapped-is n (o + i)) (wrapped-is n (o + j))
   where
@@ -41,7 +41,7 @@ wrapped-one n o i j l a b q = go (wrapped-is n (o + i)) (wrapped-is n (o + j))
     go (inr (h, e)) (inl (k, f)) = omega arith
     go (inr (h, e)) (inr (k, f)) = omega arith
 
--- the ring that begins one place further
+-- the round that begins one place further
 pub wrapped-next : (n o i : ℕ) → o < n → i < n → wrapped n (wrapped n (o + 1) + i) ≡ wrapped n (o + (i + 1))
 wrapped-next n o i l a = go (wrapped-is n (o + 1)) (wrapped-is n (wrapped n (o + 1) + i)) (wrapped-is n (o + (i + 1)))
   where

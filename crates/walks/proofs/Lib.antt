@@ -1,0 +1,5 @@
+pub mod Moves
+pub mod Calls
+pub mod Again
+pub mod Lent
+pub mod Own

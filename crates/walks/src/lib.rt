@@ -1,0 +1,1 @@
+// No code: the laws that walks by hand share stand in proofs/.
