@@ -9,10 +9,10 @@ use lib.Dec.{T}
 use Rattle.graph.specs.Graph.{Graph, Valid, Edge, Chain, stay, step, Same, all, rev, edges, from, to}
 use Rattle.graph.specs.Checker.{at}
 use Rattle.graph.specs.Certificate.{Right, Climb, here, flat, up, rankOf}
-use Rattle.graph.proofs.Chains.{chain-wider, chain-to-low, valid-rev, edge-from-low, edge-to-low, reach-rev}
+use Rattle.graph.proofs.Chains.{chain-wider, chain-to-low, edge-from-low, edge-to-low, reach-rev}
 use Rattle.graph.proofs.Loops.{ranks-end}
 use Rattle.graph.proofs.Rank.{climb-on, rank-is, rank-unique}
-use Rattle.classes.specs.Classes.{class, OwnLabels, Distances}
+use Rattle.classes.specs.Classes.{OwnLabels, Distances}
 use Rattle.ranks.specs.Ranks.{Ranks}
 use Rattle.classes.proofs.Inside.{right-tells}
 
@@ -51,7 +51,7 @@ module _ {g : Graph} (ok : Valid g) (counts : (e : ℕ) → T (g .counted e)) (l
         record {
           member =
               record {
-                there = reach-rev (valid-rev ok) (out v, chain-wider (λ y t. tt) (back v l .chain));
+                there = reach-rev (out v, chain-wider (λ y t. tt) (back v l .chain));
                 back = (d v, chain-wider (λ y t. tt) (near v l .chain));
               };
           least = λ w s. let q : at lab v ≡ at lab w = one-label l s in omega (arith, own w (chain-to-low ok (s .there .1) l) .0);
@@ -68,7 +68,7 @@ module _ {g : Graph} (ok : Valid g) (counts : (e : ℕ) → T (g .counted e)) (l
     most u (flat {v = x} {w = w} e c y q) = omega (arith, most u c, level e x w y q)
     most u (up {v = x} {w = w} e c y q) = omega (arith, most u c, grows-by e y q)
 
-    -- each rank is the number of label-changing edges on some path
+    -- each rank is the number of label-changing edges on some chain
     path : (r v : ℕ) → v < g .n → rank v ≡ r → (u : ℕ) × Climb g (at lab) r u v
     path zero v l q = (v, here)
     path (suc r) v l q = go (path r) (ranks .attained v l)

@@ -8,7 +8,7 @@ use Rattle.graph.specs.Limits.{wrongLabels}
 use Rattle.graph.specs.Search.{labels}
 use Rattle.graph.specs.Checker.{Columns, accepted, verdict}
 use Rattle.graph.specs.Certificate.{certificate}
-use Rattle.graph.proofs.Memory.{zeroed-one}
+use Rattle.memory.proofs.Memory.{zeroed-one}
 use Rattle.graph.proofs.Certificate.{right-unique, right-accepted}
 use Rattle.graph.proofs.Verdict.{accepted-verdict}
 use Rattle.certificate.specs.Promise.{Lent, lent, Call, table, columns, Tidied, Promise}

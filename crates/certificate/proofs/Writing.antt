@@ -4,31 +4,30 @@ use native.Mathlib.Omega.{arith}
 use native.Mathlib.Nat.{suc-ne-zero}
 use native.Mathlib.Decide.{ℕ-discrete}
 use mathlib.Core.Path.{_≡_, refl, sym, _∙_}
-use mathlib.Core.Logic.{_⊎_, inl, inr, by-cases}
+use mathlib.Core.Logic.{by-cases}
 use mathlib.Core.Bool.{Bool, true, false, not}
 use mathlib.Core.List.{List}
 use lib.ListN.{length, getD}
 use lib.Seq.{ext-getD}
-use lib.Dec.{T, eqb}
-use borrow.Author.Tests.{not-false, eq-eqb, ne-eqb, not-true}
+use lib.Dec.{eqb, T-not}
+use borrow.Author.Tests.{ne-eqb}
 use Rattle.graph.specs.Graph.{Valid}
 use Rattle.graph.specs.Numbers.{some-below}
-use Rattle.graph.specs.Search.{labelOf, labels}
+use Rattle.graph.specs.Search.{labelOf}
 use Rattle.graph.specs.Limits.{wrongLabels, numbersNeeded, Enough}
 use Rattle.graph.specs.Refusal.{given, _or_}
-use Rattle.graph.specs.Memory.{ClearAsk, Cleared}
+use Rattle.memory.specs.Memory.{ClearAsk, Cleared, Copied}
 use Rattle.graph.specs.Checker.{Columns, Sized, at}
 use Rattle.graph.specs.Certificate.{Right, certificate, ranks, distances, entries}
-use Rattle.graph.proofs.Tests.{no-T, some-below-iff, length-table}
+use Rattle.graph.proofs.Tests.{T-true, no-T, eq-T, some-below-iff, length-table}
 use Rattle.graph.proofs.Search.{label-is, label-eq}
 use Rattle.graph.proofs.Refusals.{or-stop, or-none, or-most, given-none, given-most, not-lacking, Passed, passed-valid}
-use Rattle.graph.proofs.Memory.{zeroed-after}
-use Rattle.regions.specs.Regions.{Copied}
+use Rattle.memory.proofs.Memory.{zeroed-after}
 use Rattle.checker.specs.Promise.{checkerRefusal}
 use Rattle.checker.proofs.Laws.{call-most, call-passed, call-ready}
 use Rattle.certificate.specs.Work.{base, Beyond, WorkAsk, Made, Worked, HandAsk, Handed}
-use Rattle.classes.proofs.Classing.{clash}
-use Rattle.certificate.specs.Promise.{lent, Call, call, table, columns, checked, wrongLabel, earlyRefusal, writerRefusal, Promise}
+use Rattle.classes.proofs.Classing.{clash, when, unless}
+use Rattle.certificate.specs.Promise.{lent, Call, table, columns, checked, wrongLabel, earlyRefusal, writerRefusal, Promise}
 
 -- what a call has that is not refused by 1 to 6
 pub record Ready (c : Call) : Type 0 where
@@ -51,9 +50,9 @@ module _ (c : Call) where
         memory = not-lacking (c .n) (length (c .sources)) (length (c .lends .numbers)) (length (c .lends .words)) (given-none 6 _ (suc-ne-zero 5) e6);
       }
 
-  pub refused-promise : (k : ℕ) → k ≡ earlyRefusal c → (k ≡ 0 → ⊥) → Promise c k (c .lends)
+  pub refused-promise : {k : ℕ} → k ≡ earlyRefusal c → (k ≡ 0 → ⊥) → Promise c k (c .lends)
   unfolding writerRefusal
-  refused-promise k e o =
+  refused-promise {k} e o =
       record {
         number = rw (← e, or-stop k _ o);
         written = λ z. absurd (o z);
@@ -61,7 +60,10 @@ module _ (c : Call) where
         refused = λ _ _. refl;
       }
 
-  module _ (fine : earlyRefusal c ≡ 0) where
+  module _ {k : ℕ} (told : k ≡ earlyRefusal c) (none : k ≡ 0) where
+    fine : earlyRefusal c ≡ 0
+    fine = sym told ∙ none
+
     ready : Ready c
     ready = early-ready fine
 
@@ -79,16 +81,17 @@ module _ (c : Call) where
           room = ready .memory .numbers;
         }
 
-    pub clear-ask : (w : List ℕ) → length w ≡ length (c .lends .numbers) → ClearAsk (c .n) (length (c .sources)) w (c .lends .words)
-    clear-ask w q =
+    pub clear-ask : {w : List ℕ} → length w ≡ length (c .lends .numbers) → ClearAsk (c .n) (length (c .sources)) w (c .lends .words)
+    clear-ask q =
         record {
           limits = record { small = ready .passed .small; few = ready .passed .few };
           enough = record { numbers = omega (arith, ready .memory .numbers); words = ready .memory .words };
         }
 
-    pub hand-ask : (w : List ℕ) → length w ≡ length (c .lends .numbers) → HandAsk (c .n) (base (table c)) w (c .lends .rank) (c .lends .inEdge) (c .lends .inDist) (c .lends .outEdge) (c .lends .outDist)
-    hand-ask w q =
+    pub hand-ask : {w : List ℕ} → length w ≡ length (c .lends .numbers) → HandAsk (c .n) (length (c .sources)) w (c .lends .rank) (c .lends .inEdge) (c .lends .inDist) (c .lends .outEdge) (c .lends .outDist)
+    hand-ask q =
         record {
+          limits = record { small = ready .passed .small; few = ready .passed .few };
           room = omega (arith, ready .memory .numbers);
           rank-size = ready .sized .rank;
           inEdge-size = ready .sized .inEdge;
@@ -102,21 +105,13 @@ module _ (c : Call) where
     unfolding wrongLabel
     right-passes right = no-T (some-below (c .n) _) (λ t.
         let (v, l, s) = some-below-iff (c .n) (λ v. not (eqb (at (c .label) v) (labelOf (table c) v))) .0 t in
-        not-both (eqb (at (c .label) v) (labelOf (table c) v)) (eq-eqb _ _ (label-eq valid l (right v l))) s)
-      where
-        not-both : (b : Bool) → b ≡ true → T (not b) → ⊥
-        not-both true q t = t
-        not-both false q t = let z : _≡_ {A = ℕ} 0 1 = cc in omega arith
+        T-not (eqb (at (c .label) v) (labelOf (table c) v)) s (eq-T _ _ (label-eq valid l (right v l))))
 
     passes-right : wrongLabel (table c) (c .label) ≡ false → Right (table c) (c .label)
     unfolding wrongLabel
     passes-right q v l = by-cases (ℕ-discrete (at (c .label) v) (labelOf (table c) v))
         (λ z. rw z (label-is valid v l))
-        (λ o. absurd (clash-here (some-below (c .n) _) q (some-below-iff (c .n) (λ v. not (eqb (at (c .label) v) (labelOf (table c) v))) .1 (v, l, rw (ne-eqb (at (c .label) v) (labelOf (table c) v) o) tt))))
-      where
-        clash-here : (b : Bool) → b ≡ false → T b → ⊥
-        clash-here true q t = let z : _≡_ {A = ℕ} 0 1 = cc in omega arith
-        clash-here false q t = t
+        (λ o. absurd (clash _ (T-true _ (some-below-iff (c .n) (λ v. not (eqb (at (c .label) v) (labelOf (table c) v))) .1 (v, l, rw (ne-eqb (at (c .label) v) (labelOf (table c) v) o) tt))) q))
 
     wrong-fails : (Right (table c) (c .label) → ⊥) → wrongLabel (table c) (c .label) ≡ true
     wrong-fails o = go (wrongLabel (table c) (c .label)) refl
@@ -130,21 +125,17 @@ module _ (c : Call) where
         → Cleared (c .n) (length (c .sources)) (c .lends .numbers) w′ (c .lends .words) words′
     tidy w w′ words′ f x = record { numbers-zero = zeroed-after (f .long) (f .rest) (x .numbers-zero); words-zero = x .words-zero }
 
-    pub wrong-promise : (r : Bool) (w w′ words′ : List ℕ) → Worked (table c) (c .label) (base (table c)) (c .lends .numbers) w r → not r ≡ true
+    pub wrong-promise : {r : Bool} {w w′ words′ : List ℕ} → Worked (table c) (c .label) (base (table c)) (c .lends .numbers) w r → not r ≡ true
         → Cleared (c .n) (length (c .sources)) w w′ (c .lends .words) words′
         → Promise c wrongLabels (lent (c .lends .rank) (c .lends .inEdge) (c .lends .inDist) (c .lends .outEdge) (c .lends .outDist) w′ words′)
     unfolding writerRefusal given _or_
-    wrong-promise r w w′ words′ x f z =
+    wrong-promise {w = w} {w′} {words′} x f z =
         record {
-          number = rw (fine, wrong-fails (go (x .either)));
+          number = rw (fine, wrong-fails (unless (x .either) f));
           written = λ q. absurd (omega arith);
           wrong = λ q. (refl, tidy w w′ words′ (x .beyond) z);
           refused = λ p q. absurd (q refl);
         }
-      where
-        go : ((r ≡ true) × Made (table c) (c .label) (base (table c)) w) ⊎ ((r ≡ false) × (Right (table c) (c .label) → ⊥)) → Right (table c) (c .label) → ⊥
-        go (inl (q, _)) right = clash r q (not-true r f)
-        go (inr (_, o)) right = o right
 
     columns-same : {label rank rank′ inEdge inEdge′ inDist inDist′ outEdge outEdge′ outDist outDist′ : List ℕ}
         → rank ≡ rank′ → inEdge ≡ inEdge′ → inDist ≡ inDist′ → outEdge ≡ outEdge′ → outDist ≡ outDist′
@@ -157,13 +148,14 @@ module _ (c : Call) where
         → Copied w a column column′ → ((v : ℕ) → v < c .n → getD w (a + v) 0 ≡ at wanted v) → column′ ≡ wanted
     column-same w a column column′ wanted p q x f = ext-getD 0 column′ wanted (x .long ∙ p ∙ sym q) (λ v l. x .each v (omega (arith, x .long)) ∙ f v (omega (arith, x .long)))
 
-    pub done-promise : (r : Bool) (w w′ words′ rank′ inEdge′ inDist′ outEdge′ outDist′ : List ℕ)
+    pub done-promise : {r : Bool} {w w′ words′ rank′ inEdge′ inDist′ outEdge′ outDist′ : List ℕ}
         → Worked (table c) (c .label) (base (table c)) (c .lends .numbers) w r → not r ≡ false
         → Handed (c .n) (base (table c)) w (c .lends .rank) rank′ (c .lends .inEdge) inEdge′ (c .lends .inDist) inDist′ (c .lends .outEdge) outEdge′ (c .lends .outDist) outDist′
         → Cleared (c .n) (length (c .sources)) w w′ (c .lends .words) words′
         → Promise c 0 (lent rank′ inEdge′ inDist′ outEdge′ outDist′ w′ words′)
     unfolding writerRefusal given _or_ certificate ranks distances entries
-    done-promise r w w′ words′ rank′ inEdge′ inDist′ outEdge′ outDist′ x f h z =
+    done-promise {w = w} {w′} {words′} {rank′} {inEdge′} {inDist′} {outEdge′} {outDist′} x f h z =
+        let made : Made (table c) (c .label) (base (table c)) w = when (x .either) f in
         record {
           number = rw (fine, right-passes (made .right));
           written = λ q. (
@@ -178,13 +170,6 @@ module _ (c : Call) where
           wrong = λ q. absurd (omega arith);
           refused = λ p q. absurd (p refl);
         }
-      where
-        go : ((r ≡ true) × Made (table c) (c .label) (base (table c)) w) ⊎ ((r ≡ false) × (Right (table c) (c .label) → ⊥)) → Made (table c) (c .label) (base (table c)) w
-        go (inl (_, m)) = m
-        go (inr (q, _)) = absurd (clash r (not-false r f) q)
-
-        made : Made (table c) (c .label) (base (table c)) w
-        made = go (x .either)
 
 -- what the number 0 says of the call
 pub ready-of : (c : Call) → writerRefusal c ≡ 0 → Valid (table c) × (length (c .label) ≡ c .n)
@@ -193,4 +178,4 @@ ready-of c e = let r = early-ready c (or-none (earlyRefusal c) _ e .0) in (passe
 
 pub right-of : (c : Call) → writerRefusal c ≡ 0 → Right (table c) (c .label)
 unfolding writerRefusal
-right-of c e = let (p, q) = or-none (earlyRefusal c) _ e in passes-right c p (given-none 10 _ (suc-ne-zero 9) q)
+right-of c e = let (p, q) = or-none (earlyRefusal c) _ e in passes-right c refl p (given-none 10 _ (suc-ne-zero 9) q)

@@ -7,8 +7,7 @@ use mathlib.Core.Logic.{_⊎_}
 use lib.ListN.{length, set}
 use Rattle.graph.specs.Graph.{Graph, Valid, edges, from, to}
 use Rattle.graph.specs.Limits.{mostEdges}
-use Rattle.graph.specs.Memory.{Framed}
-use Rattle.regions.specs.Regions.{region, Holds}
+use Rattle.memory.specs.Memory.{Framed, region, Holds}
 use Rattle.certificate.specs.Entries.{fits, Entries}
 
 -- distances stand from d on, entries go to the region from b on
@@ -22,6 +21,8 @@ pub record EntriesAsk (g : Graph) (lab : List ℕ) (d b : ℕ) (w : List ℕ) : 
 pub record OfferAsk (g : Graph) (lab : List ℕ) (d b e : ℕ) (w : List ℕ) : Type 0 where
   pub ask : EntriesAsk g lab d b w
   pub low : e < edges g
+  pub leaves : from g e < g .n
+  pub enters : to g e < g .n
 
 abbrev pub Offered : Graph → List ℕ → (d b e : ℕ) → List ℕ → List ℕ → Type 0
 Offered g lab d b e w w' =

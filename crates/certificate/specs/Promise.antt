@@ -12,7 +12,7 @@ use Rattle.graph.specs.Limits.{memoryShort, wrongLabels}
 use Rattle.graph.specs.Refusal.{given, _or_, lacking}
 use Rattle.graph.specs.Checker.{Columns, at}
 use Rattle.graph.specs.Certificate.{certificate}
-use Rattle.graph.specs.Memory.{Cleared}
+use Rattle.memory.specs.Memory.{Cleared}
 use Rattle.checker.specs.Promise.{checkerRefusal}
 use Rattle.checker.specs.Promise as checker
 

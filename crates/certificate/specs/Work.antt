@@ -7,12 +7,13 @@ use mathlib.Core.Logic.{_⊎_}
 use lib.ListN.{length, getD}
 use lib.Dec.{T}
 use Rattle.graph.specs.Graph.{Graph, Valid, rev, edges}
-use Rattle.graph.specs.Limits.{mostVertices, mostEdges, numbersNeeded}
+use Rattle.graph.specs.Limits.{mostVertices, mostEdges, InLimits, numbersNeeded}
 use Rattle.graph.specs.Checker.{at}
 use Rattle.graph.specs.Certificate.{Right, certificate}
 use Rattle.index.specs.Index.{Held}
 use Rattle.classes.specs.Classes.{OwnLabels, Distances}
-use Rattle.regions.specs.Regions.{region, inDistances, outDistances, inEdges, outEdges, ranksAt, countsAt, Copied}
+use Rattle.memory.specs.Memory.{region, Copied}
+use Rattle.memory.specs.Writer.{inDistances, outDistances, inEdges, outEdges, ranksAt, countsAt, queueAt}
 use Rattle.certificate.specs.Entries.{Entries}
 use Rattle.ranks.specs.Ranks.{Peeled, Stuck}
 
@@ -47,7 +48,7 @@ pub record Near (g : Graph) (lab : List ℕ) (b : ℕ) (w : List ℕ) : Type 0 w
   pub back-low : (v : ℕ) → v < g .n → region (outDistances (g .n) b) w v < g .n
 
 pub record Found (g : Graph) (lab : List ℕ) (b : ℕ) (w w' : List ℕ) (r : Bool) : Type 0 where
-  pub beyond : Beyond (b + 3 * g .n) w w'
+  pub beyond : Beyond (inEdges (g .n) b) w w'
   pub either : ((r ≡ true) × Near g lab b w') ⊎ ((r ≡ false) × (Right g lab → ⊥))
 
 pub record CompleteAsk (g : Graph) (lab : List ℕ) (b : ℕ) (w : List ℕ) : Type 0 where
@@ -64,7 +65,7 @@ pub record CompleteAsk (g : Graph) (lab : List ℕ) (b : ℕ) (w : List ℕ) : T
 -- the entries and the ranks for the distances that stand in w
 pub record Completed (g : Graph) (lab : List ℕ) (b : ℕ) (w w' : List ℕ) (r : Bool) : Type 0 where
   pub beyond : Beyond (b + 7 * g .n + 1) w w'
-  pub kept : (j : ℕ) → b ≤ j → j < b + 2 * g .n → getD w' j 0 ≡ getD w j 0
+  pub kept : (j : ℕ) → b ≤ j → j < queueAt (g .n) b → getD w' j 0 ≡ getD w j 0
   pub enters : Entries g lab (region (inDistances (g .n) b) w) (region (inEdges (g .n) b) w')
   pub leaves : Entries (rev g) lab (region (outDistances (g .n) b) w) (region (outEdges (g .n) b) w')
   pub either : ((r ≡ true) × Peeled g lab (region (inEdges (g .n) b) w') (region (ranksAt (g .n) b) w'))
@@ -84,8 +85,9 @@ pub record Worked (g : Graph) (lab : List ℕ) (b : ℕ) (w w' : List ℕ) (r : 
   pub beyond : Beyond (numbersNeeded (g .n) (edges g)) w w'
   pub either : ((r ≡ true) × Made g lab b w') ⊎ ((r ≡ false) × (Right g lab → ⊥))
 
-pub record HandAsk (n b : ℕ) (w rank inEdge inDist outEdge outDist : List ℕ) : Type 0 where
-  pub room : b + 7 * n ≤ length w
+pub record HandAsk (n m : ℕ) (w rank inEdge inDist outEdge outDist : List ℕ) : Type 0 where
+  pub limits : InLimits n m
+  pub room : 2 * (n + 1 + m) + 7 * n ≤ length w
   pub rank-size : length rank ≡ n
   pub inEdge-size : length inEdge ≡ n
   pub inDist-size : length inDist ≡ n

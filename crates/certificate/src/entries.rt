@@ -5,9 +5,9 @@ use checker::NO_EDGE;
 
 // Edge e becomes the entry of the vertex that it enters, if it fits the distances, which stand in w from d on.
 fn offer(
+    n: usize,
     sources: &[u32],
     targets: &[u32],
-    n: usize,
     label: &[u32],
     w: &mut [u32],
     d: usize,
@@ -32,9 +32,9 @@ fn offer(
 
 // The edges are offered, the last first: so the smallest that fits stays.
 pub fn entries(
+    n: usize,
     sources: &[u32],
     targets: &[u32],
-    n: usize,
     label: &[u32],
     w: &mut [u32],
     d: usize,
@@ -43,10 +43,10 @@ pub fn entries(
     requires { ⌜ EntriesAsk (graph n (now sources) (now targets)) (now label) d b (now w) ⌝ }
     ensures { λ _. ⌜ Entered (graph n (now (sources .entry)) (now (targets .entry))) (now (label .entry)) d b (now (w .entry)) (now (w .exit)) ⌝ }
 {
-    regions::fill(w, b, n, NO_EDGE);
+    memory::fill(w, b, n, NO_EDGE);
     let mut e = sources.len();
     while 0 < e {
         e -= 1;
-        offer(sources, targets, n, label, w, d, b, e);
+        offer(n, sources, targets, label, w, d, b, e);
     }
 }

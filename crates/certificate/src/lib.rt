@@ -1,9 +1,12 @@
 // The certificate writer: it reads the labels and fills the other five columns.
 ghost use mathlib.Core.Path.{_≡_};
+ghost use Prim.Native.Nat.{_+_, _*_};
 ghost use Rattle.certificate.specs.Work.{HandAsk, Handed};
 ghost use Rattle.certificate.specs.Promise.{lent, call, earlyRefusal, Promise};
 use graph::limits;
-use index::memory;
+use memory::writer::IN_EDGES;
+use memory::writer::OUT_EDGES;
+use memory::writer::RANKS;
 
 mod entries;
 mod work;
@@ -47,22 +50,23 @@ fn refusal(
 // The five columns become what stands in their regions.
 fn hand(
     n: usize,
+    m: usize,
     numbers: &[u32],
-    b: usize,
     rank: &mut [u32],
     in_edge: &mut [u32],
     in_distance: &mut [u32],
     out_edge: &mut [u32],
     out_distance: &mut [u32],
 )
-    requires { ⌜ HandAsk n b (now numbers) (now rank) (now «in_edge») (now «in_distance») (now «out_edge») (now «out_distance») ⌝ }
-    ensures { λ _. ⌜ Handed n b (now (numbers .entry)) (now (rank .entry)) (now (rank .exit)) (now («in_edge» .entry)) (now («in_edge» .exit)) (now («in_distance» .entry)) (now («in_distance» .exit)) (now («out_edge» .entry)) (now («out_edge» .exit)) (now («out_distance» .entry)) (now («out_distance» .exit)) ⌝ }
+    requires { ⌜ HandAsk n m (now numbers) (now rank) (now «in_edge») (now «in_distance») (now «out_edge») (now «out_distance») ⌝ }
+    ensures { λ _. ⌜ Handed n (2 * (n + 1 + m)) (now (numbers .entry)) (now (rank .entry)) (now (rank .exit)) (now («in_edge» .entry)) (now («in_edge» .exit)) (now («in_distance» .entry)) (now («in_distance» .exit)) (now («out_edge» .entry)) (now («out_edge» .exit)) (now («out_distance» .entry)) (now («out_distance» .exit)) ⌝ }
 {
-    regions::copy(numbers, b + 5 * n, rank);
-    regions::copy(numbers, b + 3 * n, in_edge);
-    regions::copy(numbers, b, in_distance);
-    regions::copy(numbers, b + 4 * n, out_edge);
-    regions::copy(numbers, b + n, out_distance);
+    let b = 2 * (n + 1 + m);
+    memory::copy(numbers, b + RANKS * n, rank);
+    memory::copy(numbers, b + IN_EDGES * n, in_edge);
+    memory::copy(numbers, b, in_distance);
+    memory::copy(numbers, b + OUT_EDGES * n, out_edge);
+    memory::copy(numbers, b + n, out_distance);
 }
 
 // Five columns from the labels: shortest distances from and to the label, the smallest edges that fit them, the ranks. The number returned.
@@ -98,14 +102,14 @@ pub fn write(
         return k;
     }
     let m = sources.len();
-    if !work::work(sources, targets, n, label, numbers) {
+    if !work::work(n, sources, targets, label, numbers) {
         memory::clear(n, m, numbers, words);
         return limits::WRONG_LABELS;
     }
     hand(
         n,
+        m,
         numbers,
-        2 * (n + 1 + m),
         rank,
         in_edge,
         in_distance,

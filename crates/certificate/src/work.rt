@@ -5,13 +5,15 @@ ghost use Rattle.graph.specs.Graph.{graph};
 ghost use Rattle.certificate.specs.Work.{FindAsk, Found, CompleteAsk, Completed, WorkAsk, Worked};
 use crate::entries;
 use index::build;
+use memory::writer::IN_EDGES;
+use memory::writer::OUT_EDGES;
 
 // The distances from and to the labels; false if some vertex is not reached inside its class.
-fn find(sources: &[u32], targets: &[u32], n: usize, label: &[u32], w: &mut [u32], b: usize) -> bool
+fn find(n: usize, sources: &[u32], targets: &[u32], label: &[u32], w: &mut [u32], b: usize) -> bool
     requires { ⌜ FindAsk (graph n (now sources) (now targets)) (now label) b (now w) ⌝ }
     ensures { λ r. ⌜ Found (graph n (now (sources .entry)) (now (targets .entry))) (now (label .entry)) b (now (w .entry)) (now (w .exit)) r ⌝ }
 {
-    build::both(sources, targets, n, w);
+    build::both(n, sources, targets, w);
     if !classes::distances(n, label, w, 0, b) {
         return false;
     }
@@ -19,11 +21,11 @@ fn find(sources: &[u32], targets: &[u32], n: usize, label: &[u32], w: &mut [u32]
     classes::distances(n, label, w, k, b + n)
 }
 
-// The entries both ways and the ranks; false if some class never goes.
+// The entries both ways and the ranks; false if some vertex never goes.
 fn complete(
+    n: usize,
     sources: &[u32],
     targets: &[u32],
-    n: usize,
     label: &[u32],
     w: &mut [u32],
     b: usize,
@@ -31,13 +33,13 @@ fn complete(
     requires { ⌜ CompleteAsk (graph n (now sources) (now targets)) (now label) b (now w) ⌝ }
     ensures { λ r. ⌜ Completed (graph n (now (sources .entry)) (now (targets .entry))) (now (label .entry)) b (now (w .entry)) (now (w .exit)) r ⌝ }
 {
-    entries::entries(sources, targets, n, label, w, b, b + 3 * n);
-    entries::entries(targets, sources, n, label, w, b + n, b + 4 * n);
-    ranks::ranks(sources, targets, n, label, w, b)
+    entries::entries(n, sources, targets, label, w, b, b + IN_EDGES * n);
+    entries::entries(n, targets, sources, label, w, b + n, b + OUT_EDGES * n);
+    ranks::ranks(n, sources, targets, label, w, b)
 }
 
 // The certificate in its regions; false if the labels are not right.
-pub fn work(sources: &[u32], targets: &[u32], n: usize, label: &[u32], w: &mut [u32]) -> bool
+pub fn work(n: usize, sources: &[u32], targets: &[u32], label: &[u32], w: &mut [u32]) -> bool
     requires { ⌜ WorkAsk (graph n (now sources) (now targets)) (now label) (now w) ⌝ }
     ensures { λ r. ⌜ Worked (graph n (now (sources .entry)) (now (targets .entry))) (now (label .entry)) (2 * (n + 1 + length (now (sources .entry)))) (now (w .entry)) (now (w .exit)) r ⌝ }
 {
@@ -45,8 +47,8 @@ pub fn work(sources: &[u32], targets: &[u32], n: usize, label: &[u32], w: &mut [
         return false;
     }
     let b = 2 * (n + 1 + sources.len());
-    if !find(sources, targets, n, label, w, b) {
+    if !find(n, sources, targets, label, w, b) {
         return false;
     }
-    complete(sources, targets, n, label, w, b)
+    complete(n, sources, targets, label, w, b)
 }

@@ -1,28 +1,40 @@
 -- What the tests of a call give, and how the answers of its parts make the verdict.
-use Prim.Native.Nat.{ℕ, _≤_, _<_}
+use Prim.Native.Nat.{ℕ, _+_, _≤_, _<_}
 use native.Mathlib.Omega.{arith}
 use native.Mathlib.Nat.{suc-ne-zero}
-use mathlib.Core.Path.{_≡_, sym, ap, subst}
+use mathlib.Core.Path.{_≡_, sym, ap, subst, _∙_}
 use mathlib.Core.Bool.{Bool, true, false, not}
-use mathlib.Core.List.{List}
-use lib.Dec.{T, leb, eqb, leb→le}
-use borrow.Author.Tests.{eqb-true, ne-eqb, lt-ltb, le-ltb, not-false}
+use mathlib.Core.List.{List, []}
+use lib.ListN.{length}
+use lib.Dec.{leb, eqb, leb→le, eqb→eq}
+use borrow.Author.Tests.{eqb-true, ne-eqb, lt-ltb, le-ltb, not-true, not-false}
+use borrow.Author.Count.{below-more}
 use Rattle.graph.specs.Graph.{Graph, Valid, graph, rev, edges}
-use Rattle.graph.specs.Refusal.{_or_, tableRefusal}
-use Rattle.graph.specs.Checker.{Columns, Sized, at, check1, check3, check5, fault, verdict}
-use Rattle.graph.proofs.Tests.{and-l}
+use Rattle.graph.specs.Refusal.{tableRefusal}
+use Rattle.graph.specs.Checker.{Columns, Sized, at, check1, check2, check3, check5, fault, verdict}
+use Rattle.graph.proofs.Tests.{and-split}
 use Rattle.graph.proofs.Chains.{graph-turned, valid-rev}
 use Rattle.graph.proofs.Least.{least-found, least-none}
 use Rattle.graph.proofs.Refusals.{or-none, or-most, given-none, given-most, or-left-none, table-most, Passed, table-passed, passed-valid}
-use Rattle.checker.specs.Contract.{columns, Ready}
-use Rattle.checker.specs.Promise.{Call, wrongSize, checkerRefusal, edgeVerdict, outcome, promised, Promise, done, refused}
+use Rattle.checker.specs.Contract.{columns, labelAndRank, RankAsk, VertexAsk, EdgeAsk, EdgesAsk, FaultAsk, Ready}
+use Rattle.checker.specs.Promise.{Call, wrongSize, checkerRefusal, edgeVerdict, outcome, promised, Promise, done}
 use Rattle.checker.specs.declared.Verdict.{Verdict}
 use Rattle.checker.specs.declared.Verdict.the-variants.{Accepted, Failed, Refused}
 
--- a label that passes check 1 is a place of the columns
-pub label-at-most : (c : Columns) (v : ℕ) → check1 c v ≡ true → at (c .label) v ≤ v
+-- check 1 says that the label is at most v, and its own label
+pub own-says : (c : Columns) (v : ℕ) → check1 c v ≡ true → (at (c .label) v ≤ v) × (at (c .label) (at (c .label) v) ≡ at (c .label) v)
 unfolding check1
-label-at-most c v e = let t : T (check1 c v) = rw e tt in leb→le _ _ (and-l (leb (at (c .label) v) v) _ t)
+own-says c v e =
+    let l : ℕ = at (c .label) v in
+    let (p, q) = and-split (leb l v) (eqb (at (c .label) l) l) (rw e tt) in
+    (leb→le l v p, eqb→eq (at (c .label) l) l q)
+
+pub edge-ask : {n : ℕ} {sources targets label rank : List ℕ} {e : ℕ} → EdgesAsk n sources targets label rank → e < length sources → EdgeAsk n sources targets label rank e
+edge-ask {e = e} a l =
+    record { label-size = a .label-size; rank-size = a .rank-size; low = l; same = a .valid .same; leaves = a .valid .from-low e l; enters = a .valid .to-low e l }
+
+pub table-none : (n : ℕ) (s t : List ℕ) {k : ℕ} → k ≡ tableRefusal n s t → k ≡ 0 → tableRefusal n s t ≡ 0
+table-none n s t p q = sym p ∙ q
 
 -- check 4 is check 3 with the table's columns exchanged
 module _ (n : ℕ) (s t : List ℕ) (ok : Valid (graph n s t)) where
@@ -31,6 +43,55 @@ module _ (n : ℕ) (s t : List ℕ) (ok : Valid (graph n s t)) where
 
   pub check-turned : (lab edge dist : List ℕ) (v : ℕ) → check3 (rev (graph n s t)) lab edge dist v ≡ check3 (graph n t s) lab edge dist v
   check-turned lab edge dist v = ap (λ (g : Graph). check3 g lab edge dist v) (sym (graph-turned n s t (ok .same)))
+
+-- what fault asks, and what it gives, test by test
+pub rank-ask : {n : ℕ} {s t label rank ie id oe od : List ℕ} {v : ℕ} → FaultAsk (graph n s t) (columns label rank ie id oe od) v
+    → {a : Bool} → a ≡ check1 (labelAndRank label []) v → not a ≡ false → RankAsk n label rank v
+rank-ask {label = label} {v = v} x {a} one p =
+    record {
+      label-size = x .ready .sized .label;
+      rank-size = x .ready .sized .rank;
+      low = x .low;
+      label-low = omega (arith, x .low, own-says (labelAndRank label []) v (sym one ∙ not-false a p) .0);
+    }
+
+pub out-ask : {n : ℕ} {s t label rank ie id oe od : List ℕ} {v : ℕ} → FaultAsk (graph n s t) (columns label rank ie id oe od) v → VertexAsk n t s label oe od v
+out-ask {n} {s} {t} x =
+    record {
+      valid = valid-turned n s t (x .ready .valid);
+      label-size = x .ready .sized .label;
+      edge-size = x .ready .sized .outEdge;
+      distance-size = x .ready .sized .outDist;
+      low = x .low;
+    }
+
+module _ (n : ℕ) (s t label rank ie id oe od : List ℕ) (v : ℕ) {a : Bool} (one : a ≡ check1 (labelAndRank label []) v) where
+  pub fault-one : not a ≡ true → 1 ≡ fault (graph n s t) (columns label rank ie id oe od) v
+  unfolding fault check1
+  fault-one f = rw (sym one ∙ not-true a f)
+
+  module _ (p : not a ≡ false) {b : Bool} (two : b ≡ check2 (graph n [] []) (labelAndRank label rank) v) where
+    pub fault-two : not b ≡ true → 2 ≡ fault (graph n s t) (columns label rank ie id oe od) v
+    unfolding fault check1 check2
+    fault-two f = rw (sym one ∙ not-false a p, sym two ∙ not-true b f)
+
+    module _ (q : not b ≡ false) {d : Bool} (three : d ≡ check3 (graph n s t) label ie id v) where
+      pub fault-three : not d ≡ true → 3 ≡ fault (graph n s t) (columns label rank ie id oe od) v
+      unfolding fault check1 check2
+      fault-three f = rw (sym one ∙ not-false a p, sym two ∙ not-false b q, sym three ∙ not-true d f)
+
+      module _ (r : not d ≡ false) (x : FaultAsk (graph n s t) (columns label rank ie id oe od) v) {e : Bool} (four : e ≡ check3 (graph n t s) label oe od v) where
+        -- check 4 is what the second test by exchanged columns told
+        told : check3 (rev (graph n s t)) label oe od v ≡ e
+        told = check-turned n s t (x .ready .valid) label oe od v ∙ sym four
+
+        pub fault-four : not e ≡ true → 4 ≡ fault (graph n s t) (columns label rank ie id oe od) v
+        unfolding fault check1 check2
+        fault-four f = rw (sym one ∙ not-false a p, sym two ∙ not-false b q, sym three ∙ not-false d r, told ∙ not-true e f)
+
+        pub fault-none : not e ≡ false → 0 ≡ fault (graph n s t) (columns label rank ie id oe od) v
+        unfolding fault check1 check2
+        fault-none f = rw (sym one ∙ not-false a p, sym two ∙ not-false b q, sym three ∙ not-false d r, told ∙ not-false e f)
 
 -- columns of which none has the wrong size
 sized : (n : ℕ) (c : Columns) → wrongSize n c ≡ false → Sized n c
@@ -86,18 +147,24 @@ module _ (g : Graph) (c : Columns) where
   abbrev wrong-edge : ℕ → Bool
   wrong-edge e = not (check5 g c e)
 
-  pub edge-failed : (e : ℕ) → e < edges g → ((j : ℕ) → j < e → wrong-edge j ≡ false) → wrong-edge e ≡ true → outcome (Failed 5 e) ≡ done (edgeVerdict g c)
+  pub edge-failed : {e : ℕ} {r : Bool} → e < edges g → ((j : ℕ) → j < e → wrong-edge j ≡ false) → r ≡ check5 g c e → not r ≡ true → outcome (Failed 5 e) ≡ done (edgeVerdict g c)
   unfolding outcome edgeVerdict
-  edge-failed e l none t = rw (← (least-found (edges g) wrong-edge e l none t), lt-ltb e (edges g) l)
+  edge-failed {e} l none q t = rw (← (least-found (edges g) wrong-edge e l none (rw (← q, t))), lt-ltb e (edges g) l)
 
-  pub edges-pass : ((j : ℕ) → j < edges g → wrong-edge j ≡ false) → outcome Accepted ≡ done (edgeVerdict g c)
+  pub edge-passed : {e : ℕ} {r : Bool} → ((j : ℕ) → j < e → wrong-edge j ≡ false) → r ≡ check5 g c e → not r ≡ false → (j : ℕ) → j < e + 1 → wrong-edge j ≡ false
+  edge-passed none q t = below-more _ _ none (rw (← q, t))
+
+  pub edges-pass : {e : ℕ} → ((j : ℕ) → j < e → wrong-edge j ≡ false) → edges g ≤ e → outcome Accepted ≡ done (edgeVerdict g c)
   unfolding outcome edgeVerdict
-  edges-pass none = rw (← (least-none (edges g) wrong-edge none), le-ltb (edges g) (edges g) (omega arith))
+  edges-pass none l = rw (← (least-none (edges g) wrong-edge (λ j h. none j (omega arith))), le-ltb (edges g) (edges g) (omega arith))
 
-  pub vertex-failed : (v k : ℕ) → v < g .n → ((j : ℕ) → j < v → wrong j ≡ false) → k ≡ fault g c v → (k ≡ 0 → ⊥) → outcome (Failed k v) ≡ done (verdict g c)
+  pub vertex-failed : {v k : ℕ} → v < g .n → ((j : ℕ) → j < v → wrong j ≡ false) → k ≡ fault g c v → (k ≡ 0 → ⊥) → outcome (Failed k v) ≡ done (verdict g c)
   unfolding outcome verdict
-  vertex-failed v k l none e o = rw (← (least-found (g .n) wrong v l none (rw (← e, ne-eqb k 0 o))), lt-ltb v (g .n) l, e)
+  vertex-failed {v} {k} l none e o = rw (← (least-found (g .n) wrong v l none (rw (← e, ne-eqb k 0 o))), lt-ltb v (g .n) l, e)
 
-  pub vertices-pass : (r : Verdict) → ((j : ℕ) → j < g .n → wrong j ≡ false) → outcome r ≡ done (edgeVerdict g c) → outcome r ≡ done (verdict g c)
+  pub vertex-passed : {v k : ℕ} → ((j : ℕ) → j < v → wrong j ≡ false) → k ≡ fault g c v → k ≡ 0 → (j : ℕ) → j < v + 1 → wrong j ≡ false
+  vertex-passed none e z = below-more _ _ none (rw (← e, z))
+
+  pub vertices-pass : (r : Verdict) {v : ℕ} → ((j : ℕ) → j < v → wrong j ≡ false) → g .n ≤ v → outcome r ≡ done (edgeVerdict g c) → outcome r ≡ done (verdict g c)
   unfolding verdict edgeVerdict
-  vertices-pass r none q = rw (← (least-none (g .n) wrong none), le-ltb (g .n) (g .n) (omega arith)) q
+  vertices-pass r none l q = rw (← (least-none (g .n) wrong (λ j h. none j (omega arith))), le-ltb (g .n) (g .n) (omega arith)) q

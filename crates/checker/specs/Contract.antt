@@ -2,7 +2,7 @@
 use Prim.Native.Nat.{ℕ, _<_}
 use mathlib.Core.Path.{_≡_}
 use mathlib.Core.List.{List, []}
-use lib.ListN.{length}
+use lib.ListN.{length, getD}
 use Rattle.graph.specs.Graph.{Graph, graph, Valid}
 use Rattle.graph.specs.Checker.{Columns, Sized, at}
 
@@ -34,10 +34,12 @@ pub record VertexAsk (n : ℕ) (sources targets label edge distance : List ℕ) 
   pub low : v < n
 
 pub record EdgeAsk (n : ℕ) (sources targets label rank : List ℕ) (e : ℕ) : Type 0 where
-  pub valid : Valid (graph n sources targets)
   pub label-size : length label ≡ n
   pub rank-size : length rank ≡ n
   pub low : e < length sources
+  pub same : length targets ≡ length sources
+  pub leaves : getD sources e 0 < n
+  pub enters : getD targets e 0 < n
 
 -- a valid table, and six columns of its size
 pub record Ready (g : Graph) (c : Columns) : Type 0 where

@@ -7,7 +7,7 @@ ghost use Rattle.checker.specs.Promise.{call, checkerRefusal, done, outc
 use graph::limits;
 use graph::table;
 
-mod checks;
+pub mod checks;
 
 // What stands in an edge column where there is no edge.
 pub const NO_EDGE: u32 = 4294967295;

@@ -2,7 +2,7 @@
 use Prim.Native.Nat.{ℕ, suc, _<_}
 use mathlib.Core.Path.{_≡_, sym}
 use mathlib.Core.List.{List}
-use Rattle.graph.specs.Graph.{Graph, Valid, Chain, stay, step, Reach, Same, all, from, to}
+use Rattle.graph.specs.Graph.{Graph, Valid, Chain, stay, step, Reach, Same, all}
 use Rattle.graph.specs.Checker.{at}
 use Rattle.graph.specs.Certificate.{Right, distOf}
 use Rattle.graph.proofs.Chains.{chain-wider, reach-join, reach-edge, same-refl, same-sym, same-trans, same-low, label-unique, label-same}

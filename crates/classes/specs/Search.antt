@@ -7,16 +7,10 @@ use mathlib.Core.Logic.{_⊎_}
 use lib.ListN.{length}
 use Rattle.graph.specs.Graph.{Graph, Chain}
 use Rattle.graph.specs.Limits.{mostVertices}
-use Rattle.graph.specs.Memory.{Framed}
+use Rattle.memory.specs.Memory.{Framed, region}
 use Rattle.graph.specs.Checker.{at}
-use Rattle.paint.specs.Colours.{Kept}
 use Rattle.paint.specs.Paint.{Laid}
-use Rattle.regions.specs.Regions.{region}
 use Rattle.classes.specs.Classes.{class, OwnLabels, Near, Distances}
-
-abbrev pub Own : List ℕ → ℕ → Bool → Type 0
-Own lab v r =
-    ((r ≡ true) × (at lab v ≤ v) × (at lab (at lab v) ≡ at lab v)) ⊎ ((r ≡ false) × ((at lab v ≤ v) → (at lab (at lab v) ≡ at lab v) → ⊥))
 
 abbrev pub Owned : ℕ → List ℕ → Bool → Type 0
 Owned n lab r = ((r ≡ true) × OwnLabels n lab) ⊎ ((r ≡ false) × (OwnLabels n lab → ⊥))
@@ -56,7 +50,7 @@ pub record ClassAsk (g : Graph) (lab : List ℕ) (ix b l : ℕ) (w : List ℕ) :
   pub sorted : Sorted g lab b l w
 
 pub record Classed (g : Graph) (lab : List ℕ) (b l : ℕ) (w w' : List ℕ) : Type 0 where
-  pub kept : Kept (g .n) b w w'
+  pub kept : Framed b (b + g .n + g .n) w w'
   pub sorted : Sorted g lab b l w'
 
 abbrev pub AllFound : ℕ → ℕ → List ℕ → Bool → Type 0
@@ -65,6 +59,6 @@ AllFound n b w r =
 
 -- distances for all, or a vertex that its label does not reach inside the class
 pub record Measured (g : Graph) (lab : List ℕ) (b : ℕ) (w w' : List ℕ) (r : Bool) : Type 0 where
-  pub kept : Kept (g .n) b w w'
-  pub either : ((r ≡ true) × Distances g lab (region b w') × ((v : ℕ) → v < g .n → region b w' v < g .n))
+  pub kept : Framed b (b + g .n + g .n) w w'
+  pub either : ((r ≡ true) × (Distances g lab (region b w') × ((v : ℕ) → v < g .n → region b w' v < g .n)))
       ⊎ ((r ≡ false) × ((v : ℕ) × (v < g .n) × ((h : ℕ) → Chain g (class lab (at lab v)) h (at lab v) v → ⊥)))

@@ -3,30 +3,18 @@ ghost use mathlib.Core.Path.{_≡_};
 ghost use Prim.Native.Nat.{_+_, _≤_, _<_};
 ghost use lib.ListN.{length};
 ghost use Rattle.graph.specs.Arrows.{Some, Every};
-ghost use Rattle.classes.specs.Search.{Own, Owned, ColourAsk, Coloured, ClassAsk, Classed, AllFound, DistancesAsk, Measured};
+ghost use Rattle.classes.specs.Search.{Owned, ColourAsk, Coloured, ClassAsk, Classed, AllFound, DistancesAsk, Measured};
+use checker::checks;
 use paint::distances as measuring;
 
-// Is v's label at most v, and its own label?
-fn own(label: &[u32], v: usize) -> bool
-    requires { ⌜ v < length (now label) ⌝ }
-    ensures { λ r. ⌜ Own (now (label .entry)) v r ⌝ }
-{
-    let l = label[v] as usize;
-    if v < l {
-        return false;
-    }
-    let x = label[l] as usize;
-    x == l
-}
-
-// Is that so for every vertex?
+// Does every vertex pass check 1?
 pub fn own_labels(n: usize, label: &[u32]) -> bool
     requires { ⌜ length (now label) ≡ n ⌝ }
     ensures { λ r. ⌜ Owned n (now (label .entry)) r ⌝ }
 {
     let mut v = 0;
     while v < n {
-        if !own(label, v) {
+        if !checks::labelled(label, v) {
             return false;
         }
         v += 1;

@@ -12,8 +12,8 @@ use borrow.Author.Tests.{lt-ltb, le-ltb, le-leb, lt-leb, leb-false}
 use Rattle.graph.specs.Graph.{Valid}
 use Rattle.graph.specs.Limits.{wordsNeeded, Enough, noPath, roomShort}
 use Rattle.graph.specs.Refusal.{given, _or_}
-use Rattle.graph.specs.Memory.{Zeroed, ClearAsk, Cleared}
-use Rattle.graph.proofs.Memory.{zeroed-after}
+use Rattle.memory.specs.Memory.{Zeroed, ClearAsk, Cleared}
+use Rattle.memory.proofs.Memory.{zeroed-after}
 use Rattle.graph.specs.Paths.{Path·of, walk}
 use Rattle.graph.proofs.Refusals.{or-stop, or-none, or-most, given-none, given-most, or-left-none, not-lacking, table-most, Passed, table-passed, passed-valid}
 use Rattle.graph.proofs.Distance.{dist-is, dist-reached}

@@ -7,7 +7,7 @@ use lib.ListN.{length, getD, drop, length-take, length-drop}
 use borrow.Rule.Slice.PartMut.{putMid, midOf}
 use Rattle.graph.specs.Graph.{Graph, graph, rev, edges}
 use Rattle.graph.proofs.Tests.{length-table}
-use Rattle.graph.proofs.Lent.{mid-long, mid-low, mid-in, mid-high}
+use Rattle.memory.proofs.Lent.{mid-long, mid-low, mid-in, mid-high}
 use Rattle.graph.proofs.Chains.{valid-rev}
 use Rattle.index.specs.Index.{Held, numbered}
 use Rattle.index.specs.Build.{IndexAsk, Built, OneAsk, One}

@@ -7,7 +7,7 @@ use lib.ListN.{drop}
 use lib.Dec.{leb}
 use Rattle.graph.specs.Limits.{wordsNeeded, noPath}
 use Rattle.graph.specs.Paths.{walk}
-use Rattle.graph.proofs.Memory.{zeroed-one}
+use Rattle.memory.proofs.Memory.{zeroed-one}
 use Rattle.paths.specs.declared.Answer.{Answer}
 use Rattle.paths.specs.declared.Answer.the-variants.{Done, Refused}
 use Rattle.paths.specs.Promise.{Call, collection, numbersOf, Left, Promise}

@@ -12,7 +12,7 @@ use Rattle.graph.specs.Parts.{only}
 use Rattle.graph.specs.Limits.{mostVertices, mostEdges}
 use Rattle.graph.specs.Certificate.{IsDist, distOf}
 use Rattle.graph.specs.Paths.{nearer, walk}
-use Rattle.graph.proofs.Lent.{cat-high}
+use Rattle.memory.proofs.Lent.{cat-high}
 use Rattle.graph.proofs.Chains.{chain-wider, edge-from-low}
 use Rattle.graph.proofs.Distance.{dist-is, dist-low, dist-unique, dist-reached}
 use Rattle.graph.proofs.Nearer.{has-nearer, nearer-is}
@@ -21,10 +21,10 @@ use Rattle.index.specs.Index.{first, numbered}
 use Rattle.index.proofs.Counts.{start-mono, start-all}
 use Rattle.index.proofs.Moved.{held-kept}
 use Rattle.index.proofs.Numbers.{number-at, number-found, number-rises}
-use Rattle.paint.specs.Colours.{col}
+use Rattle.memory.specs.Decomposer.{col}
 use Rattle.paint.specs.Distances.{Nearest, Measured, Has, MeasureAsk}
 use Rattle.paint.proofs.Spreading.{low-chain}
-use Rattle.regions.specs.Regions.{Filled}
+use Rattle.memory.specs.Memory.{Filled}
 use Rattle.paths.specs.Walk.{reverse, base, sourceAt, FindAsk, Known, Prepared, FirstAsk, First, WalkAsk, Walked, SettleAsk}
 use Rattle.paths.proofs.Indexes.{Indexed}
 
@@ -136,7 +136,7 @@ module _ {g : Graph} {u v d₀ : ℕ} {w r₀ : List ℕ} (a : WalkAsk g u v d�
   k = a .known
 
   module _ {x d : ℕ} {r : List ℕ} (z : Walking g u v d₀ r₀ x (suc d) r) where
-    pub turn : Turn g w x
+    turn : Turn g w x
     turn = record {
       vertex = z .vertex;
       begins = k .index .offs x (omega (arith, z .vertex));
@@ -162,9 +162,6 @@ module _ {g : Graph} {u v d₀ : ℕ} {w r₀ : List ℕ} (a : WalkAsk g u v d�
       edges = λ j l t. omega (arith, placed j l t .low, k .valid .long);
       ends = λ j l t. omega (arith, edge-from-low (k .valid) (placed j l t), k .room);
     }
-
-    pub turn-ask : FirstAsk (g .src) w (reverse g + g .n + 1) (base g) (getD w (reverse g + x) 0) (getD w (reverse g + x + 1) 0)
-    turn-ask = rw (turn .begins, turn .ends) own-ask
 
     low-d : d < g .n
     low-d = omega (arith, z .most, a .low)
@@ -240,23 +237,6 @@ module _ {g : Graph} {u v d₀ : ℕ} {w r₀ : List ℕ} (a : WalkAsk g u v d�
             kept = λ j h. getD-set-other r d j e 0 (omega (arith, z .most)) ∙ z .kept j h;
           }
 
-    module _ {i : ℕ} (f : First (g .src) w (reverse g + g .n + 1) (base g) d (getD w (reverse g + x) 0) (getD w (reverse g + x + 1) 0) i) where
-      same-first : First (g .src) w (reverse g + g .n + 1) (base g) d (first (rev g) x) (first (rev g) (suc x)) i
-      same-first = rw (turn .begins, turn .ends) at f
-
-      -- the edge stands in the index, and comes from a vertex
-      pub edge-place : i < edges g
-      edge-place = omega (arith, found same-first, turn .last)
-
-      pub edge-low : getD w (reverse g + g .n + 1 + i) 0 < edges g
-      edge-low = own same-first .low
-
-      pub source-low : sourceAt (g .src) w (reverse g + g .n + 1) i < g .n
-      source-low = edge-from-low (k .valid) (own same-first)
-
-      pub walk-step : Walking g u v d₀ r₀ (sourceAt (g .src) w (reverse g + g .n + 1) i) d (set r d (getD w (reverse g + g .n + 1 + i) 0))
-      walk-step = own-step same-first
-
   pub walk-all : {x : ℕ} {r : List ℕ} → Walking g u v d₀ r₀ x 0 r → Walked g u v d₀ r₀ r
   walk-all {r = r} z =
       let p = walk g u d₀ v in
@@ -290,21 +270,21 @@ module _ {g : Graph} {u v d₀ : ℕ} {w r₀ : List ℕ} (a : WalkAsk g u v d�
   back-turn = turn a down
 
   pub back-ask : FirstAsk (g .src) w (reverse g + g .n + 1) (base g) (getD w (reverse g + x) 0) (getD w (reverse g + x + 1) 0)
-  back-ask = turn-ask a down
+  back-ask = rw (back-turn .begins, back-turn .ends) (own-ask a down)
 
   module _ {i : ℕ} (f : First (g .src) w (reverse g + g .n + 1) (base g) (d - 1) (getD w (reverse g + x) 0) (getD w (reverse g + x + 1) 0) i) where
+    same-first : First (g .src) w (reverse g + g .n + 1) (base g) (d - 1) (first (rev g) x) (first (rev g) (suc x)) i
+    same-first = rw (back-turn .begins, back-turn .ends) at f
+
+    -- the edge stands in the index, and comes from a vertex
     pub back-place : i < edges g
-    back-place = edge-place a down f
+    back-place = omega (arith, found a down same-first, back-turn .last)
 
     pub back-edge : getD w (reverse g + g .n + 1 + i) 0 < edges g
-    back-edge = edge-low a down f
+    back-edge = own a down same-first .low
 
     pub back-source : sourceAt (g .src) w (reverse g + g .n + 1) i < g .n
-    back-source = source-low a down f
+    back-source = edge-from-low (a .known .valid) (own a down same-first)
 
     pub back-step : Walking g u v d₀ r₀ (sourceAt (g .src) w (reverse g + g .n + 1) i) (d - 1) (set r (d - 1) (getD w (reverse g + g .n + 1 + i) 0))
-    back-step = walk-step a down f
-
-pub walked-long : {g : Graph} {u v d : ℕ} {w room : List ℕ} → WalkAsk g u v d w room → (room' : List ℕ) → Walked g u v d room room' → length room' ≡ length room
-walked-long {g} {u} {v} {d} {room = room} a room' z =
-    omega (arith, ap length z, length-append (walk g u d v) (drop d room), length-drop d room, walk-length (a .known .valid) u (a .known .start) d v, a .fits)
+    back-step = own-step a down same-first

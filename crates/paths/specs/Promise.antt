@@ -10,7 +10,7 @@ use Rattle.graph.specs.Limits.{numbersNeeded, wordsNeeded, memoryShort, vertexO
 use Rattle.graph.specs.Refusal.{given, _or_, tableRefusal, lacking}
 use Rattle.graph.specs.Certificate.{distOf}
 use Rattle.graph.specs.Paths.{walk}
-use Rattle.graph.specs.Memory.{Zeroed}
+use Rattle.memory.specs.Memory.{Zeroed}
 use Rattle.paths.specs.declared.Answer.{Answer}
 use Rattle.paths.specs.declared.Answer.the-variants.{Done, Refused}
 

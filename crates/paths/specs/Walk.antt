@@ -10,7 +10,7 @@ use Rattle.graph.specs.Limits.{mostVertices, mostEdges, noPath, roomShort}
 use Rattle.graph.specs.Certificate.{distOf}
 use Rattle.graph.specs.Paths.{walk}
 use Rattle.index.specs.Index.{Held, numbered}
-use Rattle.paint.specs.Colours.{col}
+use Rattle.memory.specs.Decomposer.{col}
 use Rattle.paths.specs.declared.Answer.{Answer}
 use Rattle.paths.specs.declared.Answer.the-variants.{Done, Refused}
 

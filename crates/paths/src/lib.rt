@@ -3,7 +3,6 @@ ghost use mathlib.Core.Path.{_≡_};
 ghost use Rattle.paths.specs.Promise.{askRefusal, Promise};
 use graph::limits;
 use graph::table;
-use index::memory;
 
 pub mod walk;
 

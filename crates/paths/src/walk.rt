@@ -11,12 +11,12 @@ pub fn find(n: usize, sources: &[u32], targets: &[u32], u: usize, w: &mut [u32])
     requires { ⌜ FindAsk (graph n (now sources) (now targets)) u (now w) ⌝ }
     ensures { λ _. ⌜ Prepared (graph n (now (sources .entry)) (now (targets .entry))) u (now (w .entry)) (now (w .exit)) ⌝ }
 {
-    build::one(sources, targets, n, w);
+    build::one(n, sources, targets, w);
     let k = n + 1 + sources.len();
     let b = 2 * k;
-    build::numbers(targets, n, &mut w[k..b]);
+    build::numbers(n, targets, &mut w[k..b]);
     let far = (n + 1) as u32;
-    regions::fill(w, b, n, far);
+    memory::fill(w, b, n, far);
     distances::measure(n, w, 0, b, u, far);
 }
 

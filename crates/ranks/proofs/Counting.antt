@@ -24,15 +24,6 @@ many-drop f h (suc n) j l p q e = by-cases (ℕ-discrete j n)
     let t : f n ≡ h n = e n (omega arith) (λ y. omega arith) in
     rw t (omega arith))
 
-pub many-none : (f : ℕ → Bool) (n : ℕ) → many f n ≡ 0 → (i : ℕ) → i < n → f i ≡ false
-unfolding many
-many-none f zero q i l = absurd (omega arith)
-many-none f (suc n) q i l = by-cases (ℕ-discrete i n) (λ z. rw z (go (f n) q)) (λ o. many-none f n (omega arith) i (omega arith))
-  where
-    go : (b : Bool) → cond b 1 0 + many f n ≡ 0 → b ≡ false
-    go true q = absurd (omega arith)
-    go false q = refl
-
 pub many-all : (f : ℕ → Bool) (n : ℕ) → many f n ≡ n → (i : ℕ) → i < n → f i ≡ true
 unfolding many
 many-all f zero q i l = absurd (omega arith)

@@ -1,69 +1,87 @@
 -- Before peeling: the counts, and the queue of what waits for nothing.
-use Prim.Native.Nat.{ℕ, _+_, _*_, _≤_, _<_}
+use Prim.Native.Nat.{ℕ, _+_, _≤_, _<_}
 use native.Mathlib.Omega.{arith}
 use native.Mathlib.Decide.{ℕ-discrete}
 use mathlib.Core.Path.{_≡_, refl, sym, ap, _∙_}
-use mathlib.Core.Logic.{_⊎_, inl, inr, by-cases}
-use mathlib.Core.Bool.{true, false, not, _&&_}
+use mathlib.Core.Logic.{inl, inr, ⊎-elim, by-cases}
+use mathlib.Core.Bool.{false, not, _&&_}
 use mathlib.Core.List.{List}
 use lib.ListN.{length, getD, set, take}
 use lib.Seq.{getD-set-same, getD-set-other, getD-take, length-take-le}
 use lib.Dec.{eqb}
+use mir.Syntax.{w32}
+use mir.Val.{Fits}
 use borrow.Author.Tests.{eq-eqb, ne-eqb}
-use Rattle.graph.specs.Graph.{Graph, edges, to}
+use Rattle.graph.specs.Graph.{Graph, graph, edges, to}
 use Rattle.graph.specs.Numbers.{many}
-use Rattle.graph.specs.Memory.{Framed}
-use Rattle.graph.proofs.Memory.{framed-none, framed-more}
+use Rattle.memory.specs.Memory.{Framed, region, Holds, Filled}
+use Rattle.memory.proofs.Memory.{framed-none, framed-more, set-framed}
 use Rattle.graph.proofs.Counts.{many-le}
 use Rattle.graph.proofs.Ranges.{many-ext, many-next}
 use Rattle.graph.proofs.Tests.{length-table}
-use Rattle.regions.specs.Regions.{region, queueAt, inEdges, ranksAt, countsAt, Holds, Filled}
+use Rattle.memory.specs.Writer.{queueAt, inEdges, ranksAt, countsAt}
 use Rattle.index.specs.Index.{numbered}
 use Rattle.index.specs.Build.{One, OneAsk, RenumberAsk}
 use Rattle.index.proofs.Asks.{valid-column}
 use Rattle.index.proofs.Counts.{start-all}
 use Rattle.index.proofs.Moved.{held-kept}
-use Rattle.ranks.specs.Ranks.{lead, awaited, Peeled, Stuck}
-use Rattle.ranks.specs.Peel.{Counted, Freed, Frees, Peels, RanksAsk, Ranking, PeelAsk, AfterPeel, Ended, Ranked}
-use Rattle.regions.proofs.Storing.{set-framed}
-use Rattle.ranks.proofs.Settling.{lead-same, ranking-more}
+use Rattle.ranks.specs.Ranks.{lead, awaited}
+use Rattle.ranks.specs.Peel.{Ground, LeadAsk, Led, Counted, FreeAsk, Freed, FreesAsk, Frees, Peels, RanksAsk, Ranking, PeelAsk, AfterPeel, Ranked}
+use Rattle.ranks.proofs.Leads.{lead-same}
+use Rattle.ranks.proofs.Settling.{ground-kept, lead-ask, ranking-more}
 
 -- the leads of the first e edges are counted
 pub record Tallied (L : ℕ → ℕ) (c n e : ℕ) (w₀ w : List ℕ) : Type 0 where
   pub framed : Framed c (c + (n + 1)) w₀ w
   pub each : (v : ℕ) → v < n + 1 → getD w (c + v) 0 ≡ many (λ x. eqb (L x) v && not false) e
 
-module _ (L : ℕ → ℕ) (c n : ℕ) (w₀ : List ℕ) where
-  pub tally-none : ((v : ℕ) → v < n + 1 → getD w₀ (c + v) 0 ≡ 0) → Tallied L c n 0 w₀ w₀
-  unfolding many
-  tally-none z = record { framed = framed-none c (c + (n + 1)) w₀; each = z }
+module _ {n : ℕ} {sources targets lab : List ℕ} {b e : ℕ} {w : List ℕ} (a : Ground (graph n sources targets) lab b w) where
+  pub tally-ask : e < length sources → LeadAsk n lab b (getD sources e 0) (getD targets e 0) w
+  tally-ask m = lead-ask a (getD sources e 0) e (a .valid .from-low e m) m
 
-  pub tally-few : (e : ℕ) (w : List ℕ) → Tallied L c n e w₀ w → (v : ℕ) → v < n + 1 → getD w (c + v) 0 ≤ e
-  tally-few e w x v l = omega (arith, x .each v l, many-le (λ x. eqb (L x) v && not false) e)
+  module _ {w₀ : List ℕ} (x : Tallied (lead (graph n sources targets) lab (region (inEdges n b) w₀)) (countsAt n b) n e w₀ w)
+      {t : ℕ} (led : Led n lab (region (inEdges n b) w) (getD sources e 0) (getD targets e 0) e t) (m : e < length sources) where
+    abbrev L : ℕ → ℕ
+    L = lead (graph n sources targets) lab (region (inEdges n b) w₀)
 
-  pub tally-step : (e : ℕ) (w : List ℕ) → Tallied L c n e w₀ w → (t : ℕ) → t ≡ L e → t < n + 1 → c + (n + 1) ≤ length w
-      → Tallied L c n (e + 1) w₀ (set w (c + t) (getD w (c + t) 0 + 1))
-  tally-step e w x t q l room =
-      record {
-        framed = framed-more (x .framed) (set-framed w c (c + (n + 1)) (c + t) (getD w (c + t) 0 + 1) (omega arith) (omega arith));
-        each = λ v m. rw (many-next (λ x. eqb (L x) v && not false) e) (by-cases (ℕ-discrete v t)
-            (λ z. let y : L e ≡ v = sym q ∙ sym z in
-            rw (eq-eqb (L e) v y, z, getD-set-same w (c + t) (getD w (c + t) 0 + 1) 0 (omega arith)) (omega (arith, x .each t l)))
-            (λ o. rw (ne-eqb (L e) v (λ y. o (sym y ∙ sym q)), getD-set-other w (c + t) (c + v) (getD w (c + t) 0 + 1) 0 (λ z. o (omega arith)), x .each v m) (omega arith)));
-      }
+    pub tally-fits : Fits w32 (getD w (countsAt n b + t) 0 + 1)
+    tally-fits = record { fits = omega (arith, x .each t (omega (arith, led .low)), many-le (λ x. eqb (L x) t && not false) e, a .few) }
 
--- the counts of the leads are what is awaited
-pub tally-all : (g : Graph) (lab : List ℕ) (b : ℕ) (w w₀ w′ : List ℕ) → ((e : ℕ) → e < edges g → to g e < g .n)
-    → Filled (countsAt (g .n) b) (g .n + 1) 0 w w₀ → Tallied (lead g lab (region (inEdges (g .n) b) w₀)) (countsAt (g .n) b) (g .n) (edges g) w₀ w′ → Counted g lab b w w′
+    leads : t ≡ L e
+    unfolding lead
+    leads = led .is ∙ lead-same (graph n sources targets) lab (region (inEdges n b) w) (region (inEdges n b) w₀) e (x .framed .low (inEdges n b + getD targets e 0) (omega (arith, a .valid .to-low e m)))
+
+    pub tally-step : Tallied (lead (graph n sources targets) lab (region (inEdges n b) w₀)) (countsAt n b) n (e + 1) w₀ (set w (countsAt n b + t) (getD w (countsAt n b + t) 0 + 1))
+    tally-step =
+        let c : ℕ = countsAt n b in
+        let l : t < n + 1 = omega (arith, led .low) in
+        record {
+          framed = framed-more (x .framed) (set-framed w c (c + (n + 1)) (c + t) (getD w (c + t) 0 + 1) (omega arith) (omega arith));
+          each = λ v m. rw (many-next (λ x. eqb (L x) v && not false) e) (by-cases (ℕ-discrete v t)
+              (λ z. rw (eq-eqb (L e) v (sym leads ∙ sym z), z, getD-set-same w (c + t) (getD w (c + t) 0 + 1) 0 (omega (arith, a .fits))) (omega (arith, x .each t l)))
+              (λ o. rw (ne-eqb (L e) v (λ y. o (sym y ∙ sym leads)), getD-set-other w (c + t) (c + v) (getD w (c + t) 0 + 1) 0 (λ z. o (omega arith)), x .each v m) (omega arith)));
+        }
+
+pub tally-none : {L : ℕ → ℕ} {c n : ℕ} {w w₀ : List ℕ} → Filled c (n + 1) 0 w w₀ → Tallied L c n 0 w₀ w₀
+unfolding many
+tally-none {w₀ = w₀} f = record { framed = framed-none _ _ w₀; each = f .each }
+
+-- the counts of all leads are what is awaited
+pub tally-all : {g : Graph} {lab : List ℕ} {b e : ℕ} {w w₀ w₁ : List ℕ} → Filled (countsAt (g .n) b) (g .n + 1) 0 w w₀ → Ground g lab b w₁ → e ≤ edges g → edges g ≤ e
+    → Tallied (lead g lab (region (inEdges (g .n) b) w₀)) (countsAt (g .n) b) (g .n) e w₀ w₁ → Counted g lab b w w₁
 unfolding awaited
-tally-all g lab b w w₀ w′ low f x =
+tally-all {g} {lab} {b} {e} {w₀ = w₀} f a l h x =
+    let q : e ≡ edges g = omega arith in
     record {
       framed = framed-more (f .framed) (x .framed);
-      counts = λ inEdge h v l. x .each v (omega arith) ∙ many-ext _ _ (edges g) (λ e m.
-          rw (lead-same g lab (region (inEdges (g .n) b) w₀) inEdge e (f .framed .low (inEdges (g .n) b + to g e) (omega (arith, low e m)) ∙ h (to g e) (low e m))));
+      counts = λ inEdge k v m. (rw q at (x .each v (omega arith))) ∙ many-ext _ _ (edges g) (λ i j.
+          rw (lead-same g lab (region (inEdges (g .n) b) w₀) inEdge i (f .framed .low (inEdges (g .n) b + to g i) (omega (arith, a .valid .to-low i j)) ∙ k (to g i) (a .valid .to-low i j))));
     }
 
-module _ (n b : ℕ) (w₀ : List ℕ) where
+pub frees-ask : {g : Graph} {lab : List ℕ} {b : ℕ} {w w′ : List ℕ} → Ground g lab b w → Counted g lab b w w′ → FreesAsk (g .n) b w′
+frees-ask a c = record { small = a .small; fits = omega (arith, a .fits, c .framed .long) }
+
+module _ {n b : ℕ} {w₀ : List ℕ} (a : FreesAsk n b w₀) where
   abbrev count : ℕ → ℕ
   count = region (countsAt n b) w₀
 
@@ -78,33 +96,30 @@ module _ (n b : ℕ) (w₀ : List ℕ) where
         once = λ i j l m. absurd (omega arith);
       }
 
-  module _ (v : ℕ) (w : List ℕ) (k : ℕ) (x : Frees n b v w₀ w k) (low : v < n) (fits : b + 7 * n + 1 ≤ length w₀) where
-    pub frees-room : k < n
-    frees-room = omega (arith, x .size, many-le (λ v. eqb (count v) 0) v)
+  module _ {v k : ℕ} {w : List ℕ} (x : Frees n b v w₀ w k) (low : v < n) where
+    room : k < n
+    room = omega (arith, x .size, many-le (λ v. eqb (count v) 0) v)
 
-    pub frees-fits : b + 7 * n + 1 ≤ length w
-    frees-fits = omega (arith, x .framed .long)
+    pub free-ask : FreeAsk n b v k w
+    free-ask = record { ask = record { small = a .small; fits = omega (arith, a .fits, x .framed .long) }; vertex = low; room = room }
 
     same-count : region (countsAt n b) w v ≡ count v
     same-count = x .framed .high (countsAt n b + v) (omega arith)
 
-    pub frees-step : (w′ : List ℕ) (k′ : ℕ) → Freed n b v k w w′ k′ → Frees n b (v + 1) w₀ w′ k′
-    frees-step w′ k′ (inl (o, p, q)) =
+    pub frees-step : {w′ : List ℕ} {k′ : ℕ} → Freed n b v k w w′ k′ → Frees n b (v + 1) w₀ w′ k′
+    frees-step (inl (o, p, q)) =
         rw (p, q)
         (record {
           framed = x .framed;
           size = rw (many-next (λ v. eqb (count v) 0) v, ne-eqb (count v) 0 (λ z. o (same-count ∙ z))) (omega (arith, x .size));
           member = λ i l. let (m, z) = x .member i l in (omega arith, z);
-          listed = λ u l z. x .listed u (other u l z) z;
+          listed = λ u l z. by-cases (ℕ-discrete u v) (λ y. absurd (o (same-count ∙ rw y at z))) (λ y. x .listed u (omega arith) z);
           once = x .once;
         })
-      where
-        other : (u : ℕ) → u < v + 1 → count u ≡ 0 → u < v
-        other u l z = by-cases (ℕ-discrete u v) (λ y. absurd (o (same-count ∙ rw y at z))) (λ y. omega arith)
-    frees-step w′ k′ (inr (z, p, q)) =
+    frees-step (inr (z, p, q)) =
         rw (p, q)
         (record {
-          framed = framed-more (x .framed) (set-framed w (queueAt n b) (inEdges n b) (queueAt n b + k) v (omega arith) (omega (arith, frees-room)));
+          framed = framed-more (x .framed) (set-framed w (queueAt n b) (inEdges n b) (queueAt n b + k) v (omega arith) (omega (arith, room)));
           size = rw (many-next (λ v. eqb (count v) 0) v, eq-eqb (count v) 0 zero-now) (omega (arith, x .size));
           member = λ i l. by-cases (ℕ-discrete i k) (λ y. rw (y, here) (omega arith, zero-now)) (λ o. rw (before i (omega arith)) (let (m, t) = x .member i (omega arith) in (omega arith, t)));
           listed = λ u l t. by-cases (ℕ-discrete u v) (λ y. (k, omega arith, here ∙ sym y)) (λ o. let (i, m, s) = x .listed u (omega arith) t in (i, omega arith, before i m ∙ s));
@@ -117,7 +132,7 @@ module _ (n b : ℕ) (w₀ : List ℕ) where
         zero-now = sym same-count ∙ z
 
         here : region (queueAt n b) (set w (queueAt n b + k) v) k ≡ v
-        here = getD-set-same w (queueAt n b + k) v 0 (omega (arith, frees-room, frees-fits))
+        here = getD-set-same w (queueAt n b + k) v 0 (omega (arith, room, x .framed .long, a .fits))
 
         before : (i : ℕ) → i < k → region (queueAt n b) (set w (queueAt n b + k) v) i ≡ region (queueAt n b) w i
         before i l = getD-set-other w (queueAt n b + k) (queueAt n b + i) v 0 (λ y. omega arith)
@@ -176,15 +191,7 @@ module _ {g : Graph} {lab : List ℕ} {b : ℕ} {w w₀ w₁ w₂ w₃ : List �
     pub begin : PeelAsk g lab b k w₃
     begin =
         record {
-          ground =
-              record {
-                valid = a .ground .valid;
-                size = a .ground .size;
-                labels-low = a .ground .labels-low;
-                small = a .ground .small;
-                few = a .ground .few;
-                fits = omega (arith, a .ground .fits, begin-frame .long, x .long);
-              };
+          ground = ground-kept (a .ground) (begin-frame .long ∙ x .long);
           counts = a .counts;
           index = held-kept (numbered g) 0 w₀ w₃ (λ j l m. begin-frame .low j (omega (arith, a .below))) (x .index);
           below = a .below;
@@ -193,21 +200,16 @@ module _ {g : Graph} {lab : List ℕ} {b : ℕ} {w w₀ w₁ w₂ w₃ : List �
           peels = begin-peels;
         }
 
-  pub ranks-end : (w′ : List ℕ) (k′ : ℕ) → AfterPeel g lab b k w₃ w′ k′ → Ranked g lab b w w′ (eqb k′ (g .n))
+  pub ranks-end : {w′ : List ℕ} {k′ : ℕ} → AfterPeel g lab b k w₃ w′ k′ → Ranked g lab b w w′ (eqb k′ (g .n))
   unfolding begin
-  ranks-end w′ k′ y =
+  ranks-end {w′} {k′} y =
       record {
         long = frame .long ∙ x .long;
         low = λ j l m. frame .low j m ∙ behind j l;
         mid = λ j l m. frame .mid j l m ∙ behind j (omega (arith, a .below));
         high = λ j l. frame .high j l ∙ behind j (omega (arith, a .below));
-        either = λ inEdge h. by inEdge (y .ended (begin inEdge h));
+        either = λ inEdge h. ⊎-elim (λ (z, p). inl (eq-eqb k′ (g .n) z, p)) (λ (l, s). inr (ne-eqb k′ (g .n) (λ z. omega arith), s)) (y .ended (begin inEdge h));
       }
     where
       frame : Ranking (g .n) b w₀ w′
       frame = ranking-more begin-frame (y .frame)
-
-      by : (inEdge : ℕ → ℕ) → Ended g lab b w′ k′ inEdge
-          → ((eqb k′ (g .n) ≡ true) × Peeled g lab inEdge (region (ranksAt (g .n) b) w′)) ⊎ ((eqb k′ (g .n) ≡ false) × Stuck g lab inEdge (region (countsAt (g .n) b) w′))
-      by inEdge (inl (z, p)) = inl (eq-eqb k′ (g .n) z, p)
-      by inEdge (inr (l, s)) = inr (ne-eqb k′ (g .n) (λ z. omega arith), s)

@@ -8,18 +8,11 @@ use mathlib.Core.List.{List}
 use borrow.Author.Tests.{eq-eqb, ne-eqb}
 use Rattle.graph.specs.Graph.{Graph, from, to}
 use Rattle.graph.specs.Checker.{at}
-use Rattle.ranks.specs.Ranks.{lead, riseOf, rise}
+use Rattle.ranks.specs.Ranks.{lead, rise}
 
--- an edge raises the rank exactly if it changes the label
-module _ (lab : List ℕ) (u v : ℕ) where
-  pub rise-change : (riseOf lab u v ≡ 0 → ⊥) → at lab u ≡ at lab v → ⊥
-  rise-change o s = o (rw (eq-eqb _ _ s))
-
-  pub rise-same : riseOf lab u v ≡ 0 → at lab u ≡ at lab v
-  rise-same z = elim (ℕ-discrete (at lab u) (at lab v)) as (λ _. at lab u ≡ at lab v) [
-    | yes s ↦ s
-    | no o ↦ let q : _≡_ {A = ℕ} 1 0 = rw (ne-eqb _ _ o) at z in absurd (omega arith)
-  ]
+pub lead-same : (g : Graph) (lab : List ℕ) (f h : ℕ → ℕ) (e : ℕ) → f (to g e) ≡ h (to g e) → lead g lab f e ≡ lead g lab h e
+unfolding lead
+lead-same g lab f h e q = rw q
 
 module _ (g : Graph) (lab : List ℕ) (inEdge : ℕ → ℕ) (e : ℕ) where
   -- an edge that changes the label is awaited by the label it leads to

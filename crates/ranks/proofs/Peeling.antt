@@ -65,8 +65,13 @@ module _ (g : Graph) (lab : List ℕ) (inEdge : ℕ → ℕ) (done : ℕ → Boo
 
 module _ {g : Graph} (ok : Valid g) (lab : List ℕ) (inEdge : ℕ → ℕ) {done : ℕ → Bool} {count rank queue : ℕ → ℕ} {k top : ℕ}
     (p : Peeling g lab inEdge done count rank queue k top) (e : ℕ) (m : e < edges g) (fresh : done e ≡ false) (source : count (from g e) ≡ 0) where
-  lu : from g e < g .n
-  lu = ok .from-low e m
+  -- the edges that are gone then leave what waits for nothing
+  source-of : (x : ℕ) → x < edges g → T (extend done e x) → count (from g x) ≡ 0
+  source-of x l s = by (extend-split done e x s)
+    where
+      by : T (done x) ⊎ (x ≡ e) → count (from g x) ≡ 0
+      by (inl s) = p .settled x l s
+      by (inr z) = rw z source
 
   -- an edge that no vertex waits for goes
   pub goes-alone : lead g lab inEdge e ≡ g .n → Peeling g lab inEdge (extend done e) count rank queue k top
@@ -77,16 +82,12 @@ module _ {g : Graph} (ok : Valid g) (lab : List ℕ) (inEdge : ℕ → ℕ) {don
         listed = p .listed;
         once = p .once;
         size = p .size;
-        settled = λ x l t. by (extend-split done e x t) (p .settled x l);
+        settled = source-of;
         raised = λ x l t z. more x l z (extend-split done e x t);
         attained = λ v l. wider v (p .attained v l);
         bounded = p .bounded;
       }
     where
-      by : {x : ℕ} → T (done x) ⊎ (x ≡ e) → (T (done x) → count (from g x) ≡ 0) → count (from g x) ≡ 0
-      by (inl t) f = f t
-      by (inr z) f = rw z source
-
       more : (x : ℕ) → x < edges g → lead g lab inEdge x < g .n → T (done x) ⊎ (x ≡ e) → rank (from g x) + rise g lab x ≤ rank (lead g lab inEdge x)
       more x l z (inl t) = p .raised x l t z
       more x l z (inr y) = let w : lead g lab inEdge e < g .n = rw y at z in absurd (omega arith)
@@ -116,13 +117,6 @@ module _ {g : Graph} (ok : Valid g) (lab : List ℕ) (inEdge : ℕ → ℕ) {don
 
       zero-still : (v : ℕ) → v < g .n → count v ≡ 0 → count′ v ≡ 0
       zero-still v l z = others v l (not-t v z) ∙ z
-
-      source-of : (x : ℕ) → x < edges g → T (extend done e x) → count (from g x) ≡ 0
-      source-of x l s = by (extend-split done e x s)
-        where
-          by : T (done x) ⊎ (x ≡ e) → count (from g x) ≡ 0
-          by (inl s) = p .settled x l s
-          by (inr z) = rw z source
 
       new-counts : (v : ℕ) → v < g .n → count′ v ≡ awaited g lab inEdge (extend done e) v
       new-counts v l = by-cases (ℕ-discrete v t)

@@ -9,11 +9,11 @@ use mathlib.Core.List.{List}
 use lib.ListN.{getD}
 use lib.Dec.{T}
 use Rattle.graph.specs.Graph.{Graph, edges}
-use Rattle.regions.specs.Regions.{inEdges}
+use Rattle.memory.specs.Writer.{inEdges}
 use Rattle.ranks.specs.Ranks.{extend, extends}
-use Rattle.ranks.specs.Peel.{SettleAsk, AfterSettle, ScanAsk, Scanned}
+use Rattle.ranks.specs.Peel.{SettleAsk, AfterSettle, rowOf, ScanAsk, Scanned}
 use Rattle.ranks.proofs.Peeling.{extend-other, extend-old, extend-here, extend-split}
-use Rattle.ranks.proofs.Settling.{onward-none, onward-more}
+use Rattle.ranks.proofs.Settling.{ground-kept, lead-ask, onward-none, onward-more}
 
 module _ (done : ℕ → Bool) (row : ℕ → ℕ) where
   pub extends-old : (i x : ℕ) → T (done x) → T (extends done row i x)
@@ -50,39 +50,32 @@ module _ (done : ℕ → Bool) (row : ℕ → ℕ) where
   unfolding extends
   extends-suc i = refl
 
-module _ {g : Graph} {lab : List ℕ} {b s t u k₀ : ℕ} {w₀ : List ℕ} (a : ScanAsk g lab b s t u k₀ w₀) where
+module _ {g : Graph} {lab : List ℕ} {b u k₀ : ℕ} {w₀ : List ℕ} (a : ScanAsk g lab b u k₀ w₀) where
   abbrev row : ℕ → ℕ
-  row i = getD w₀ (g .n + 1 + (s + i)) 0
+  row = rowOf (g .n) u w₀
 
-  pub scan-none : Scanned g lab b s s k₀ w₀ w₀ k₀ (a .course)
+  abbrev s : ℕ
+  s = getD w₀ u 0
+
+  pub scan-none : Scanned g lab b u s k₀ w₀ w₀ k₀ (a .course)
   unfolding extends
   scan-none =
       let z : s - s ≡ 0 = omega arith in
       record { onward = onward-none (g .n) b k₀ w₀; peels = rw z (a .course .peels) }
 
-  module _ (j : ℕ) (w : List ℕ) (k : ℕ) (x : Scanned g lab b s j k₀ w₀ w k (a .course)) (l : s ≤ j) (h : j < t) where
-    place : s + (j - s) ≡ j
-    place = omega arith
-
+  module _ {j k : ℕ} {w : List ℕ} (x : Scanned g lab b u j k₀ w₀ w k (a .course)) (l : s ≤ j) (h : j < getD w₀ (u + 1) 0) where
     -- the edge read is the row's
-    pub read-edge : getD w (g .n + 1 + j) 0 ≡ getD w₀ (g .n + 1 + j) 0
+    read-edge : getD w (g .n + 1 + j) 0 ≡ getD w₀ (g .n + 1 + j) 0
     read-edge = x .onward .frame .low (g .n + 1 + j) (omega (arith, a .below))
 
-    pub scan-edge-low : getD w (g .n + 1 + j) 0 < edges g
-    scan-edge-low = rw read-edge (a .row j l h .0)
+    edge-low : getD w (g .n + 1 + j) 0 < edges g
+    edge-low = rw read-edge (a .row j l h .0)
 
     pub scan-ask : SettleAsk g lab b u (getD w (g .n + 1 + j) 0) k w
     scan-ask =
+        let ground = ground-kept (a .ground) (x .onward .frame .long) in
         record {
-          ground =
-              record {
-                valid = a .ground .valid;
-                size = a .ground .size;
-                labels-low = a .ground .labels-low;
-                small = a .ground .small;
-                few = a .ground .few;
-                fits = omega (arith, a .ground .fits, x .onward .frame .long);
-              };
+          ground = ground;
           course =
               record {
                 inEdge = a .course .inEdge;
@@ -92,17 +85,19 @@ module _ {g : Graph} {lab : List ℕ} {b s t u k₀ : ℕ} {w₀ : List ℕ} (a 
                 peels = x .peels;
                 top-low = a .course .top-low;
               };
-          low = scan-edge-low;
+          asks = lead-ask ground u (getD w (g .n + 1 + j) 0) (a .vertex) edge-low;
+          low = edge-low;
           leaves = rw read-edge (a .row j l h .1);
           fresh = rw read-edge (extends-fresh (a .course .done) row (j - s) (getD w₀ (g .n + 1 + j) 0) (a .row j l h .2) (λ i m q. omega (arith, a .rising (s + i) j (omega arith) (omega arith) h)));
-          source = rw (read-edge, a .row j l h .1) (x .onward .still u (a .vertex) (a .source) .0);
-          bound = rw (read-edge, a .row j l h .1) (let q = x .onward .still u (a .vertex) (a .source) .1 in omega (arith, a .bound));
+          source = x .onward .still u (a .vertex) (a .source) .0;
+          bound = omega (arith, a .bound, x .onward .still u (a .vertex) (a .source) .1);
         }
 
-    pub scan-step : (w′ : List ℕ) (k′ : ℕ) → AfterSettle g lab b u (getD w (g .n + 1 + j) 0) k w w′ k′ → Scanned g lab b s (j + 1) k₀ w₀ w′ k′ (a .course)
+    pub scan-step : {w′ : List ℕ} {k′ : ℕ} → AfterSettle g lab b u (getD w (g .n + 1 + j) 0) k w w′ k′ → Scanned g lab b u (j + 1) k₀ w₀ w′ k′ (a .course)
     unfolding scan-ask extends
-    scan-step w′ k′ f =
+    scan-step f =
         let y = f scan-ask in
         let z : j + 1 - s ≡ suc (j - s) = omega arith in
-        let e : getD w (g .n + 1 + j) 0 ≡ row (j - s) = rw place read-edge in
+        let p : s + (j - s) ≡ j = omega arith in
+        let e : getD w (g .n + 1 + j) 0 ≡ row (j - s) = rw p read-edge in
         record { onward = onward-more (x .onward) (y .onward); peels = rw (z, extends-suc (a .course .done) row (j - s), ← e) (y .peels) }

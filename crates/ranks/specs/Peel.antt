@@ -7,14 +7,14 @@ use mathlib.Core.Logic.{_⊎_}
 use lib.ListN.{length, getD, set}
 use lib.Dec.{T, eqb}
 use Rattle.graph.specs.Numbers.{many}
-use Rattle.graph.specs.Memory.{Framed}
-use Rattle.graph.specs.Graph.{Graph, Valid, edges, from}
+use Rattle.memory.specs.Memory.{Framed, region, Holds}
+use Rattle.graph.specs.Graph.{Graph, Valid, edges, from, to}
 use Rattle.graph.specs.Arrows.{Arrows, on}
 use Rattle.graph.specs.Limits.{mostVertices, mostEdges}
 use Rattle.graph.specs.Checker.{at}
 use Rattle.index.specs.Index.{Held, numbered}
-use Rattle.regions.specs.Regions.{region, queueAt, inEdges, ranksAt, countsAt, Holds}
-use Rattle.ranks.specs.Ranks.{awaited, Peeling, extend, extends, Peeled, Stuck}
+use Rattle.memory.specs.Writer.{queueAt, inEdges, ranksAt, countsAt}
+use Rattle.ranks.specs.Ranks.{leadOf, riseOf, awaited, Peeling, extend, extends, Peeled, Stuck}
 
 -- the table, its labels, and room for the regions
 pub record Ground (g : Graph) (lab : List ℕ) (b : ℕ) (w : List ℕ) : Type 0 where
@@ -30,10 +30,21 @@ pub record RiseAsk (lab : List ℕ) (u v : ℕ) : Type 0 where
   pub leaves : u < length lab
   pub enters : v < length lab
 
-pub record LeadAsk (lab : List ℕ) (n b u v : ℕ) (w : List ℕ) : Type 0 where
+-- by how much an edge from u to v raises the rank
+pub record Risen (lab : List ℕ) (u v r : ℕ) : Type 0 where
+  pub is : r ≡ riseOf lab u v
+  pub low : r ≤ 1
+
+pub record LeadAsk (n : ℕ) (lab : List ℕ) (b u v : ℕ) (w : List ℕ) : Type 0 where
   pub ends : RiseAsk lab u v
   pub vertex : v < n
+  pub low : at lab v < n
   pub fits : b + 7 * n + 1 ≤ length w
+
+-- the vertex that waits for edge e from u to v, n if none does
+pub record Led (n : ℕ) (lab : List ℕ) (inEdge : ℕ → ℕ) (u v e r : ℕ) : Type 0 where
+  pub is : r ≡ leadOf n lab inEdge u v e
+  pub low : r ≤ n
 
 -- a table whose targets are t
 abbrev pub targeted : List ℕ → Arrows → Arrows
@@ -71,11 +82,12 @@ pub record Course (g : Graph) (lab : List ℕ) (b k : ℕ) (w : List ℕ) : Type
 pub record SettleAsk (g : Graph) (lab : List ℕ) (b u e k : ℕ) (w : List ℕ) : Type 0 where
   pub ground : Ground g lab b w
   pub course : Course g lab b k w
+  pub asks : LeadAsk (g .n) lab b u (to g e) w
   pub low : e < edges g
   pub leaves : from g e ≡ u
   pub fresh : course .done e ≡ false
-  pub source : region (countsAt (g .n) b) w (from g e) ≡ 0
-  pub bound : region (ranksAt (g .n) b) w (from g e) < course .top
+  pub source : region (countsAt (g .n) b) w u ≡ 0
+  pub bound : region (ranksAt (g .n) b) w u < course .top
 
 -- the queue grew, and what waited for nothing keeps its rank and waits for nothing
 pub record Onward (n b k : ℕ) (w w' : List ℕ) (k' : ℕ) : Type 0 where
@@ -92,24 +104,30 @@ pub record Settled (g : Graph) (lab : List ℕ) (b e k : ℕ) (w w' : List ℕ) 
 abbrev pub AfterSettle : Graph → List ℕ → (b u e k : ℕ) → List ℕ → List ℕ → ℕ → Type 0
 AfterSettle g lab b u e k w w' k' = (a : SettleAsk g lab b u e k w) → Settled g lab b e k w w' k' (a .course)
 
--- the edge numbers at the places s .. t - 1 are those of u, which waits for nothing
-pub record ScanAsk (g : Graph) (lab : List ℕ) (b s t u k : ℕ) (w : List ℕ) : Type 0 where
+-- the edge numbers of u stand in w from place w u up to place w (u + 1)
+abbrev pub rowOf : ℕ → ℕ → List ℕ → ℕ → ℕ
+rowOf n u w i = getD w (n + 1 + (getD w u 0 + i)) 0
+
+-- the edges of the row leave u, which waits for nothing; they are in order, and none has gone
+pub record ScanAsk (g : Graph) (lab : List ℕ) (b u k : ℕ) (w : List ℕ) : Type 0 where
   pub ground : Ground g lab b w
   pub course : Course g lab b k w
-  pub order : s ≤ t
-  pub below : g .n + 1 + t ≤ b
+  pub order : getD w u 0 ≤ getD w (u + 1) 0
+  pub below : g .n + 1 + getD w (u + 1) 0 ≤ b
   pub vertex : u < g .n
-  pub row : (j : ℕ) → s ≤ j → j < t → (getD w (g .n + 1 + j) 0 < edges g) × (from g (getD w (g .n + 1 + j) 0) ≡ u) × (course .done (getD w (g .n + 1 + j) 0) ≡ false)
-  pub rising : (i j : ℕ) → s ≤ i → i < j → j < t → getD w (g .n + 1 + i) 0 < getD w (g .n + 1 + j) 0
+  pub row : (j : ℕ) → getD w u 0 ≤ j → j < getD w (u + 1) 0
+      → (getD w (g .n + 1 + j) 0 < edges g) × (from g (getD w (g .n + 1 + j) 0) ≡ u) × (course .done (getD w (g .n + 1 + j) 0) ≡ false)
+  pub rising : (i j : ℕ) → getD w u 0 ≤ i → i < j → j < getD w (u + 1) 0 → getD w (g .n + 1 + i) 0 < getD w (g .n + 1 + j) 0
   pub source : region (countsAt (g .n) b) w u ≡ 0
   pub bound : region (ranksAt (g .n) b) w u < course .top
 
-pub record Scanned (g : Graph) (lab : List ℕ) (b s j k : ℕ) (w w' : List ℕ) (k' : ℕ) (c : Course g lab b k w) : Type 0 where
+-- the edges of the row's places below j have gone
+pub record Scanned (g : Graph) (lab : List ℕ) (b u j k : ℕ) (w w' : List ℕ) (k' : ℕ) (c : Course g lab b k w) : Type 0 where
   pub onward : Onward (g .n) b k w w' k'
-  pub peels : Peels g lab (c .inEdge) (extends (c .done) (λ i. getD w (g .n + 1 + (s + i)) 0) (j - s)) b w' k' (c .top)
+  pub peels : Peels g lab (c .inEdge) (extends (c .done) (rowOf (g .n) u w) (j - getD w u 0)) b w' k' (c .top)
 
-abbrev pub AfterScan : Graph → List ℕ → (b s t u k : ℕ) → List ℕ → List ℕ → ℕ → Type 0
-AfterScan g lab b s t u k w w' k' = (a : ScanAsk g lab b s t u k w) → Scanned g lab b s t k w w' k' (a .course)
+abbrev pub AfterScan : Graph → List ℕ → (b u k : ℕ) → List ℕ → List ℕ → ℕ → Type 0
+AfterScan g lab b u k w w' k' = (a : ScanAsk g lab b u k w) → Scanned g lab b u (getD w (u + 1) 0) k w w' k' (a .course)
 
 -- the front holds the edge numbers, and every edge counts; nothing has gone yet, and the queue holds what waits for nothing
 pub record PeelAsk (g : Graph) (lab : List ℕ) (b k : ℕ) (w : List ℕ) : Type 0 where

@@ -16,9 +16,6 @@ asked c =
 pass : (c : tie.Else1) → checkerRefusal (asked (c .before)) ≡ 0
 pass c = sym (c .before .refusal .ensures) ∙ c .if1 .left
 
-refusal-requires : tie.Need-refusal-requires
-refusal-requires c κs = search needs
-
 returns : tie.Need-returns
 unfolding earlyRefusal
 returns c = rw (← (c .before .refusal .ensures), or-stop _ _ (c .if1 .taken))
@@ -35,4 +32,4 @@ unfolding earlyRefusal given _or_
 returns-3 c = rw (pass (c .before .before), sym (c .before .lacking .ensures) ∙ c .if2 .left)
 
 pub refusal-spec : {M : Type 1} → statement M
-refusal-spec = tie.close (tie.spec refusal-requires returns lacking-requires returns-2 returns-3)
+refusal-spec = tie.close (tie.spec (λ c κs. search needs) returns lacking-requires returns-2 returns-3)

@@ -10,9 +10,6 @@ asked c =
     let s = c .before .before .before .before .before .before .before .before .before in
     call (s .args .n) (s .args .sources .now) (s .args .targets .now) (s .args .label .now) (s .args .rank .now) (s .args .in-edge .now) (s .args .in-distance .now) (s .args .out-edge .now) (s .args .out-distance .now)
 
-refusal-requires : tie.Need-refusal-requires
-refusal-requires c κs = search needs
-
 returns : tie.Need-returns
 returns c = refused-promise (asked (c .before)) _ (c .before .refusal .ensures) (c .if1 .taken)
 
@@ -23,4 +20,4 @@ returns-2 : tie.Need-returns-2
 returns-2 c = let at-refusal = c .before .before in judged-promise (asked at-refusal) _ (sym (at-refusal .refusal .ensures) ∙ c .before .if1 .left) (c .judge .ensures)
 
 pub check-spec : {M : Type 1} → statement M
-check-spec = tie.close (tie.spec refusal-requires returns judge-requires returns-2)
+check-spec = tie.close (tie.spec (λ c κs. search needs) returns judge-requires returns-2)

@@ -3,11 +3,11 @@ use mathlib.Core.Bool.{false, not}
 use Prim.Native.Nat.{ℕ, _≤_, _<_, _-_}
 use native.Mathlib.Omega.{arith}
 use lib.ListN.{length}
-use borrow.Author.Count.{below-more}
+use borrow.Author.Needs.{needs}
 use Rattle.graph.specs.Graph.{graph}
 use Rattle.graph.specs.Checker.{check5}
 use Rattle.checker.specs.Contract.{labelAndRank}
-use Rattle.checker.proofs.Laws.{edge-failed, edges-pass}
+use Rattle.checker.proofs.Laws.{edge-ask, edge-failed, edge-passed, edges-pass}
 use Rattle.checker.proofs.judge_edges.Statement.{statement}
 use Rattle.checker.proofs.judge_edges.Tie as tie
 
@@ -21,31 +21,16 @@ loop-holds : tie.Need-loop-holds Inv-loop μ-loop
 loop-holds c = (omega arith, λ j h. absurd (omega arith))
 
 rises-requires : tie.Need-rises-requires Inv-loop μ-loop
-rises-requires c κs =
-    let start = c .before .before .before .before .before .before in
-    record { valid = start .pre .valid; label-size = start .pre .label-size; rank-size = start .pre .rank-size; low = c .loop-test .taken }
+rises-requires c κs = search edge-ask
 
 returns : tie.Need-returns Inv-loop μ-loop
-returns c =
-    let at-rises = c .before in
-    let at-loop-test = at-rises .before in
-    let at-loop = at-loop-test .before in
-    edge-failed _ _ (at-loop .loop .e) (at-loop-test .loop-test .taken) (at-loop .loop .inv .1) (rw (← (at-rises .rises .ensures), c .if1 .taken))
-
-add-e : tie.Need-add-e Inv-loop μ-loop
-add-e c = omega (arith, c .before .before .loop-test .taken)
-
-loop-less : tie.Need-loop-less Inv-loop μ-loop
-loop-less c = omega arith
+returns c = search edge-failed
 
 loop-again : tie.Need-loop-again Inv-loop μ-loop
-loop-again c =
-    let at-rises = c .before in
-    let at-loop = at-rises .before .before in
-    (omega arith, below-more _ _ (at-loop .loop .inv .1) (rw (← (at-rises .rises .ensures), c .if1 .left)))
+loop-again c = (omega arith, search edge-passed)
 
 returns-2 : tie.Need-returns-2 Inv-loop μ-loop
-returns-2 c = edges-pass _ _ (λ j h. c .before .loop .inv .1 j (omega arith))
+returns-2 c = search edges-pass
 
 pub judge-edges-spec : {M : Type 1} → statement M
 judge-edges-spec =
@@ -56,7 +41,7 @@ judge-edges-spec =
     loop-holds
     rises-requires
     returns
-    add-e
-    loop-less
+    (λ c. search needs)
+    (λ c. search needs)
     loop-again
     returns-2)

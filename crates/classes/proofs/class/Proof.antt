@@ -1,70 +1,35 @@
-use Prim.Native.Nat.{_-_}
 use native.Mathlib.Omega.{arith}
 use borrow.Author.Needs.{needs}
 use Rattle.classes.proofs.Classing.{class-skip, measure-ask, class-search}
 use Rattle.classes.proofs.class.Statement.{statement}
 use Rattle.classes.proofs.class.Tie as tie
 
-mul-x : tie.Need-mul-x
-mul-x c =
-    let start = c .before .before in
-    omega (arith, start .pre .0 .1 .ask .size, start .pre .0 .1 .ask .small)
-
-shared-slice-read-x : tie.Need-shared-slice-read-x
-shared-slice-read-x c =
-    let start = c .before .before .before in
-    omega (arith, start .pre .0 .1 .ask .size)
-
-cast-x : tie.Need-cast-x
-cast-x c =
-    let start = c .before .before .before in
-    omega (arith, c .shared-slice-known2 .given (start .args .l))
+abbrev start : tie.After-measure-arg → tie.Start
+start c = c .before .before .before .before .before
 
 returns : tie.Need-returns
-returns c =
-    let start = c .before .before .before .before in
-    λ g q. class-skip q (start .pre .1) (c .if1 .taken)
-
-add-measure : tie.Need-add-measure
-add-measure c =
-    let start = c .before .before .before .before .before in
-    omega (arith, start .pre .0 .1 .ask .small)
-
-add-measure-2 : tie.Need-add-measure-2
-add-measure-2 c =
-    let start = c .before .before .before .before .before in
-    omega (arith, start .pre .0 .1 .ask .small, start .pre .1)
-
-cast-measure : tie.Need-cast-measure
-cast-measure c =
-    let start = c .before .before .before .before .before in
-    omega (arith, start .pre .0 .1 .ask .small, start .pre .1)
+returns c = λ g q. search class-skip
 
 measure-requires : tie.Need-measure-requires
-measure-requires c κs =
-    let start = c .before .before .before .before .before in
-    (start .pre .0 .0, measure-ask (start .pre .0 .1) (start .pre .1))
-
-same-length : tie.Need-same-length
-same-length c = search needs
+measure-requires c κs = let (q, l) = start c .pre in (q .0, measure-ask (q .1) l)
 
 returns-2 : tie.Need-returns-2
 returns-2 c =
-    let at-measure = c .before .before in
-    let start = at-measure .before .before .before .before .before .before in
-    λ g q. class-search q (start .pre .1) _ _ (at-measure .measure .ensures g (measure-ask q (start .pre .1)))
+    let x = c .before .before in
+    let l = start (x .before) .pre .1 in
+    λ g q. class-search q l (x .measure .ensures g (measure-ask q l))
 
 pub class-spec : {M : Type 1} → statement M
 class-spec =
     tie.close
     (tie.spec
-    mul-x
-    shared-slice-read-x
-    cast-x
+    (λ c. search needs)
+    (λ c. search needs)
+    (λ c. omega (arith, c .shared-slice-known2 .given (c .before .before .before .args .l)))
     returns
-    add-measure
-    add-measure-2
-    cast-measure
+    (λ c. search needs)
+    (λ c. search needs)
+    (λ c. search needs)
     measure-requires
-    same-length
+    (λ c. search needs)
     returns-2)

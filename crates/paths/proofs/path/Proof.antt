@@ -11,58 +11,50 @@ use Rattle.paths.proofs.path.Tie as tie
 abbrev call : tie.Start → Call
 call s = record { n = s .args .n; sources = s .args .sources .now; targets = s .args .targets .now; u = s .args .u; v = s .args .v; room = s .args .room .now; numbers = s .args .numbers .now; words = s .args .words .now }
 
-abbrev asked : (c : tie.Else1) → Call
-asked c = call (c .before .before .before .before .before .before .before)
+abbrev asked : tie.After-refusal → Call
+asked c = call (c .before .before .before .before .before .before)
 
-pass : (c : tie.Else1) → firstRefusal (asked c) ≡ 0
+-- the search, seen from the answer
+abbrev searched : tie.After-settle → tie.After-find
+searched c = c .before .before .before .before .before
+
+pass : (c : tie.Else1) → firstRefusal (asked (c .before)) ≡ 0
 pass c = sym (c .before .refusal .ensures) ∙ c .if1 .left
 
 -- the answer may be settled
-ask : (c : tie.After-find) → SettleAsk (collection (asked (c .before .before))) (asked (c .before .before) .u) (asked (c .before .before) .v) (c .find .last .1 .1 .1 .1 .0)
-ask c = record { known = c .find .ensures .known; vertex = admitted (asked (c .before .before)) (pass (c .before .before)) .v-low }
-
-refusal-requires : tie.Need-refusal-requires
-refusal-requires c κs = search needs
+ask : (c : tie.After-find) → SettleAsk (collection (asked (c .before .before .before))) (asked (c .before .before .before) .u) (asked (c .before .before .before) .v) (c .find .last .1 .1 .1 .1 .0)
+ask c = record { known = c .find .ensures .known; vertex = admitted (asked (c .before .before .before)) (pass (c .before .before)) .v-low }
 
 returns : tie.Need-returns
-returns c = first-refused (call (c .before .before .before .before .before .before .before)) _ (c .before .refusal .ensures) (c .if1 .taken)
+returns c = first-refused (asked (c .before)) _ (c .before .refusal .ensures) (c .if1 .taken)
 
 find-requires : tie.Need-find-requires
-find-requires c κs = find-ask (asked (c .before)) (pass (c .before))
+find-requires c κs = find-ask (asked (c .before .before)) (pass (c .before))
 
 settle-requires : tie.Need-settle-requires
-settle-requires c κs = let a = asked (c .before .before .before .before .before .before) in (arrows (collection a), a .u, ask (c .before .before .before .before))
+settle-requires c κs = let f = c .before .before .before .before in let a = asked (f .before .before .before) in (arrows (collection a), a .u, ask f)
 
 clear-requires : tie.Need-clear-requires
-clear-requires c κs = let at-find = c .before .before .before .before .before .before .before .before .before in clear-ask (asked (at-find .before .before)) (pass (at-find .before .before)) _ (at-find .find .ensures .long)
-
-same-length : tie.Need-same-length
-same-length c = search needs
-
-same-length-2 : tie.Need-same-length-2
-same-length-2 c = search needs
-
-same-length-3 : tie.Need-same-length-3
-same-length-3 c = search needs
+clear-requires c κs = let f = searched (c .before .before .before .before) in clear-ask (asked (f .before .before .before)) (pass (f .before .before)) _ (f .find .ensures .long)
 
 returns-2 : tie.Need-returns-2
 returns-2 c =
     let at-clear = c .before .before .before .before in
     let at-settle = at-clear .before .before .before .before .before in
-    let at-find = at-settle .before .before .before .before .before in
+    let at-find = searched at-settle in
     settled-promise _ (pass (at-find .before .before)) _ _ _ _ (at-find .find .ensures) (at-clear .clear .ensures) (at-settle .settle .result)
-    (let a = asked (at-find .before .before) in at-settle .settle .ensures (arrows (collection a)) (a .u) (ask at-find))
+    (let a = asked (at-find .before .before .before) in at-settle .settle .ensures (arrows (collection a)) (a .u) (ask at-find))
 
 pub path-spec : {M : Type 1} → statement M
 path-spec =
     tie.close
     (tie.spec
-    refusal-requires
+    (λ c κs. search needs)
     returns
     find-requires
     settle-requires
     clear-requires
-    same-length
-    same-length-2
-    same-length-3
+    (λ c. search needs)
+    (λ c. search needs)
+    (λ c. search needs)
     returns-2)

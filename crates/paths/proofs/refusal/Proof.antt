@@ -10,9 +10,6 @@ use Rattle.paths.proofs.refusal.Tie as tie
 pass : (c : tie.Else1) → tableRefusal (c .before .before .before .before .args .n) (c .before .before .before .before .args .sources .now) (c .before .before .before .before .args .targets .now) ≡ 0
 pass c = sym (c .before .check .ensures) ∙ c .if1 .left
 
-check-requires : tie.Need-check-requires
-check-requires c κs = search needs
-
 returns : tie.Need-returns
 unfolding askRefusal given _or_
 returns c = sym (or-stop _ _ (λ e. c .if1 .taken (c .before .check .ensures ∙ e)) ∙ sym (c .before .check .ensures))
@@ -39,4 +36,4 @@ returns-5 c = rw (pass (c .before .before .before .before), sym (c .before .befo
 pub refusal-spec : {M : Type 1} → statement M
 refusal-spec =
     tie.close
-    (tie.spec check-requires returns lacking-requires returns-2 returns-3 returns-4 returns-5)
+    (tie.spec (λ c κs. search needs) returns lacking-requires returns-2 returns-3 returns-4 returns-5)

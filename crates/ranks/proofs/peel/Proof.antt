@@ -1,144 +1,53 @@
-use Prim.Native.Nat.{_≤_, _-_, _+_, _*_}
-use native.Mathlib.Omega.{arith}
-use lib.ListN.{getD}
+use Prim.Native.Nat.{_≤_, _-_, _+_}
+use Rattle.memory.specs.Writer.{queueAt}
 use Rattle.ranks.specs.Peel.{EveryInto, Ranking, PeelAsk, Taken}
-use Rattle.ranks.proofs.Taking.{take-none, queue-few, u-low, take-ask-read, take-step-read, take-end}
+use Rattle.ranks.proofs.Taking.{take-none, queue-few, take-ask, take-step, take-end}
 use Rattle.ranks.proofs.Settling.{ranking-none}
+use borrow.Author.Needs.{needs}
+use native.Mathlib.Omega.{arith}
 use Rattle.ranks.proofs.peel.Statement.{statement}
 use Rattle.ranks.proofs.peel.Tie as tie
 
 abbrev Inv-loop : tie.InvT-loop
-Inv-loop targets n label w₀ b k0 k₀ h₀ w k h = (h ≤ k) × Ranking n b w₀ w × EveryInto n targets (λ g. (a : PeelAsk g label b k0 w₀) → Taken g label b h w k (a .inEdge))
+Inv-loop n targets label w₀ b k0 k₀ h₀ w k h =
+    (h ≤ k) × (k ≤ n) × Ranking n b w₀ w × EveryInto n targets (λ g. (a : PeelAsk g label b k0 w₀) → Taken g label b h w k (a .inEdge))
 
 abbrev μ-loop : tie.MeasureT-loop
-μ-loop targets n label w₀ b k0 k₀ h₀ w k h = n - h
+μ-loop n targets label w₀ b k0 k₀ h₀ w k h = n - h
+
+abbrev start : tie.At-loop Inv-loop μ-loop → tie.Start Inv-loop μ-loop
+start c = c .before .before .before .before
+
+-- the beginning of a turn, seen from its end
+abbrev turn : tie.After-slice-known3 Inv-loop μ-loop → tie.In-loop Inv-loop μ-loop
+turn c = c .before .before .before .before .before
 
 loop-holds : tie.Need-loop-holds Inv-loop μ-loop
-loop-holds c =
-    let start = c .before .before .before in
-    (omega arith, ranking-none (start .args .n) (start .args .b) (start .args .w .now), λ g a. take-none a)
-
-mul-u : tie.Need-mul-u Inv-loop μ-loop
-mul-u c =
-    let at-loop = c .before in
-    let start = at-loop .before .before .before .before in
-    let l = at-loop .loop in omega (arith, start .pre .1 .ground .fits, start .pre .1 .ground .small, l .inv .1 .long, queue-few (start .pre .1) (l .inv .2 (start .pre .0) (start .pre .1)), start .pre .1 .below)
-
-add-u : tie.Need-add-u Inv-loop μ-loop
-add-u c =
-    let at-loop = c .before in
-    let start = at-loop .before .before .before .before in
-    let l = at-loop .loop in omega (arith, start .pre .1 .ground .fits, start .pre .1 .ground .small, l .inv .1 .long, queue-few (start .pre .1) (l .inv .2 (start .pre .0) (start .pre .1)), start .pre .1 .below)
-
-add-u-2 : tie.Need-add-u-2 Inv-loop μ-loop
-add-u-2 c =
-    let at-loop = c .before in
-    let start = at-loop .before .before .before .before in
-    let l = at-loop .loop in omega (arith, start .pre .1 .ground .fits, start .pre .1 .ground .small, l .inv .1 .long, queue-few (start .pre .1) (l .inv .2 (start .pre .0) (start .pre .1)), start .pre .1 .below)
-
-mul-u-2 : tie.Need-mul-u-2 Inv-loop μ-loop
-mul-u-2 c =
-    let at-loop = c .before in
-    let start = at-loop .before .before .before .before in
-    let l = at-loop .loop in omega (arith, start .pre .1 .ground .fits, start .pre .1 .ground .small, l .inv .1 .long, queue-few (start .pre .1) (l .inv .2 (start .pre .0) (start .pre .1)), start .pre .1 .below)
-
-slice-read-u : tie.Need-slice-read-u Inv-loop μ-loop
-slice-read-u c =
-    let at-loop = c .before .before in
-    let start = at-loop .before .before .before .before in
-    let l = at-loop .loop in omega (arith, start .pre .1 .ground .fits, start .pre .1 .ground .small, l .inv .1 .long, queue-few (start .pre .1) (l .inv .2 (start .pre .0) (start .pre .1)), start .pre .1 .below)
+loop-holds c = let (g, a) = c .before .before .before .pre in (omega arith, queue-few a (take-none a), ranking-none _ _ _, λ g a. take-none a)
 
 cast-u : tie.Need-cast-u Inv-loop μ-loop
-cast-u c =
-    let at-loop = c .before .before in
-    let start = at-loop .before .before .before .before in
-    omega (arith, c .slice-known2 .given (start .args .b + 2 * start .args .n + at-loop .loop .h))
-
-mul-s : tie.Need-mul-s Inv-loop μ-loop
-mul-s c =
-    let at-loop-test = c .before in
-    let at-loop = at-loop-test .before in
-    let start = at-loop .before .before .before .before in
-    let l = at-loop .loop in omega (arith, start .pre .1 .ground .fits, start .pre .1 .ground .small, l .inv .1 .long, queue-few (start .pre .1) (l .inv .2 (start .pre .0) (start .pre .1)), start .pre .1 .below, u-low (start .pre .1) (l .h) (l .k) (l .w) (l .inv .1) (l .inv .2 (start .pre .0) (start .pre .1)) (at-loop-test .loop-test .taken))
-
-slice-read-s : tie.Need-slice-read-s Inv-loop μ-loop
-slice-read-s c =
-    let at-loop-test = c .before .before in
-    let at-loop = at-loop-test .before in
-    let start = at-loop .before .before .before .before in
-    let l = at-loop .loop in omega (arith, start .pre .1 .ground .fits, start .pre .1 .ground .small, l .inv .1 .long, queue-few (start .pre .1) (l .inv .2 (start .pre .0) (start .pre .1)), start .pre .1 .below, u-low (start .pre .1) (l .h) (l .k) (l .w) (l .inv .1) (l .inv .2 (start .pre .0) (start .pre .1)) (at-loop-test .loop-test .taken))
-
-cast-s : tie.Need-cast-s Inv-loop μ-loop
-cast-s c =
-    let at-loop = c .before .before .before in
-    let start = at-loop .before .before .before .before in
-    omega (arith, c .slice-known3 .given (getD (at-loop .loop .w) (start .args .b + 2 * start .args .n + at-loop .loop .h) 0))
-
-add-t : tie.Need-add-t Inv-loop μ-loop
-add-t c =
-    let at-loop-test = c .before .before in
-    let at-loop = at-loop-test .before in
-    let start = at-loop .before .before .before .before in
-    let l = at-loop .loop in omega (arith, start .pre .1 .ground .fits, start .pre .1 .ground .small, l .inv .1 .long, queue-few (start .pre .1) (l .inv .2 (start .pre .0) (start .pre .1)), start .pre .1 .below, u-low (start .pre .1) (l .h) (l .k) (l .w) (l .inv .1) (l .inv .2 (start .pre .0) (start .pre .1)) (at-loop-test .loop-test .taken))
-
-mul-t : tie.Need-mul-t Inv-loop μ-loop
-mul-t c =
-    let at-loop-test = c .before .before in
-    let at-loop = at-loop-test .before in
-    let start = at-loop .before .before .before .before in
-    let l = at-loop .loop in omega (arith, start .pre .1 .ground .fits, start .pre .1 .ground .small, l .inv .1 .long, queue-few (start .pre .1) (l .inv .2 (start .pre .0) (start .pre .1)), start .pre .1 .below, u-low (start .pre .1) (l .h) (l .k) (l .w) (l .inv .1) (l .inv .2 (start .pre .0) (start .pre .1)) (at-loop-test .loop-test .taken))
-
-slice-read-t : tie.Need-slice-read-t Inv-loop μ-loop
-slice-read-t c =
-    let at-loop-test = c .before .before .before in
-    let at-loop = at-loop-test .before in
-    let start = at-loop .before .before .before .before in
-    let l = at-loop .loop in omega (arith, start .pre .1 .ground .fits, start .pre .1 .ground .small, l .inv .1 .long, queue-few (start .pre .1) (l .inv .2 (start .pre .0) (start .pre .1)), start .pre .1 .below, u-low (start .pre .1) (l .h) (l .k) (l .w) (l .inv .1) (l .inv .2 (start .pre .0) (start .pre .1)) (at-loop-test .loop-test .taken))
-
-cast-t : tie.Need-cast-t Inv-loop μ-loop
-cast-t c =
-    let at-loop = c .before .before .before .before in
-    let start = at-loop .before .before .before .before in
-    omega (arith, c .slice-known4 .given (getD (at-loop .loop .w) (start .args .b + 2 * start .args .n + at-loop .loop .h) 0 + 1))
+cast-u c = let l = c .before .before in omega (arith, c .slice-known2 .given (queueAt (start l .args .n) (start l .args .b) + l .loop .h))
 
 scan-requires : tie.Need-scan-requires Inv-loop μ-loop
 scan-requires c κs =
-    let at-loop-test = c .before .before .before .before in
-    let at-loop = at-loop-test .before in
-    let start = at-loop .before .before .before .before in
-    let l = at-loop .loop in (start .pre .0, take-ask-read (start .pre .1) (l .h) (l .k) (l .w) (l .inv .1) (l .inv .2 (start .pre .0) (start .pre .1)) (at-loop-test .loop-test .taken))
-
-add-h : tie.Need-add-h Inv-loop μ-loop
-add-h c =
-    let at-loop = c .before .before .before .before .before .before .before .before in
-    let start = at-loop .before .before .before .before in
-    let l = at-loop .loop in omega (arith, start .pre .1 .ground .fits, start .pre .1 .ground .small, l .inv .1 .long, queue-few (start .pre .1) (l .inv .2 (start .pre .0) (start .pre .1)), start .pre .1 .below)
-
-loop-less : tie.Need-loop-less Inv-loop μ-loop
-loop-less c =
-    let at-loop = c .before .before .before .before .before .before .before .before in
-    let start = at-loop .before .before .before .before in
-    let l = at-loop .loop in omega (arith, start .pre .1 .ground .fits, start .pre .1 .ground .small, l .inv .1 .long, queue-few (start .pre .1) (l .inv .2 (start .pre .0) (start .pre .1)), start .pre .1 .below)
+    let l = c .before .before .before in
+    let (g, a) = start l .pre in
+    (g, take-ask a (l .loop .inv .2) (l .loop .inv .3 g a) (c .before .before .loop-test .taken))
 
 loop-again : tie.Need-loop-again Inv-loop μ-loop
 loop-again c =
-    let at-scan = c .before .before in
-    let at-loop-test = at-scan .before .before .before .before .before in
-    let at-loop = at-loop-test .before in
-    let start = at-loop .before .before .before .before in
-    let l = at-loop .loop in let y = take-step-read (start .pre .1) (l .h) (l .k) (l .w) (l .inv .1) (l .inv .2 (start .pre .0) (start .pre .1)) (at-loop-test .loop-test .taken) _ _ (at-scan .scan .ensures (start .pre .0)) in
-    (omega (arith, y .2), y .0, λ g a. take-step-read a (l .h) (l .k) (l .w) (l .inv .1) (l .inv .2 g a) (at-loop-test .loop-test .taken) _ _ (at-scan .scan .ensures g) .1)
+    let (_, _, f, x) = turn c .before .loop .inv in
+    let (g, a) = start (turn c .before) .pre in
+    let y = c .before .before .scan .ensures in
+    let m = turn c .loop-test .taken in
+    let z = take-step a f (x g a) m (y g) in
+    (omega (arith, z .2), queue-few a (z .1), z .0, λ g a. take-step a f (x g a) m (y g) .1)
 
 same-length : tie.Need-same-length Inv-loop μ-loop
-same-length c =
-    let at-loop = c .before in
-    at-loop .loop .inv .1 .long
+same-length c = c .before .loop .inv .2 .long
 
 returns : tie.Need-returns Inv-loop μ-loop
-returns c =
-    let at-loop = c .before in
-    let start = at-loop .before .before .before .before in
-    let l = at-loop .loop in λ g. record { frame = l .inv .1; ended = λ a. take-end a (l .h) (l .k) (l .w) (l .inv .2 g a) (c .loop-test .left) }
+returns c = let l = c .before .loop in λ g. record { frame = l .inv .2; ended = λ a. take-end a (l .inv .3 g a) (c .loop-test .left) }
 
 pub peel-spec : {M : Type 1} → statement M
 peel-spec =
@@ -147,22 +56,15 @@ peel-spec =
     Inv-loop
     μ-loop
     loop-holds
-    mul-u
-    add-u
-    add-u-2
-    mul-u-2
-    slice-read-u
+    (λ c. search needs)
+    (λ c. search needs)
+    (λ c. search needs)
+    (λ c. search needs)
+    (λ c. search needs)
     cast-u
-    mul-s
-    slice-read-s
-    cast-s
-    add-t
-    mul-t
-    slice-read-t
-    cast-t
     scan-requires
-    add-h
-    loop-less
+    (λ c. search needs)
+    (λ c. search needs)
     loop-again
     same-length
     returns)

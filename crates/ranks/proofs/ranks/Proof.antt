@@ -1,121 +1,95 @@
-use mathlib.Core.Path.{refl, sym}
+use mathlib.Core.Path.{refl, sym, _∙_}
 use mathlib.Core.List.{_++_}
-use Prim.Native.Nat.{_-_, _+_}
-use native.Mathlib.Omega.{arith}
+use Prim.Native.Nat.{_+_}
 use lib.ListN.{length, drop}
 use lib.Seq.{length-take-le}
-use borrow.Author.Needs.{needs}
-use Rattle.graph.specs.Graph.{graph}
-use Rattle.graph.specs.Arrows.{Arrows, arrows}
+use Rattle.graph.specs.Graph.{Graph, graph}
+use Rattle.graph.specs.Arrows.{arrows}
 use Rattle.index.specs.Index.{numbered}
 use Rattle.index.specs.Build.{One}
 use Rattle.index.proofs.Moved.{one-laid}
-use Rattle.regions.specs.Regions.{region, inEdges}
-use Rattle.ranks.proofs.Freeing.{numbers-ask, renumber-ask, ranks-end, begin}
+use Rattle.memory.specs.Memory.{region}
+use Rattle.memory.specs.Writer.{inEdges}
+use Rattle.ranks.specs.Peel.{Ground}
+use Rattle.ranks.proofs.Settling.{ground-kept}
+use Rattle.ranks.proofs.Freeing.{numbers-ask, renumber-ask, frees-ask, ranks-end, begin}
+use borrow.Author.Needs.{needs}
+use native.Mathlib.Omega.{arith}
 use Rattle.ranks.proofs.ranks.Statement.{statement}
 use Rattle.ranks.proofs.ranks.Tie as tie
 
-add-k : tie.Need-add-k
-add-k c = search needs
+abbrev whole : tie.Start → Graph
+whole s = graph (s .args .n) (s .args .sources .now) (s .args .targets .now)
 
-add-k-2 : tie.Need-add-k-2
-add-k-2 c = search needs
+-- the stages, each seen from the next
+abbrev start : tie.After-renumber → tie.Start
+start c = c .before .before .before .before .before .before
 
-slice-relend-prefix-renumber : tie.Need-slice-relend-prefix-renumber
-slice-relend-prefix-renumber c =
-    let start = c .before .before .before .before in
-    numbers-ask (start .pre) .room
+abbrev renumbered : tie.After-fill → tie.After-renumber
+renumbered c = c .before .before .before .before
 
-slice-aggregate-renumber : tie.Need-slice-aggregate-renumber
-slice-aggregate-renumber c =
-    let start = c .before .before .before .before .before in
-    sym (length-take-le (start .args .n + 1 + length (start .args .sources .now)) (start .args .w .now) (numbers-ask (start .pre) .room))
+abbrev filled : tie.After-counts → tie.After-fill
+filled c = c .before .before .before .before
 
-renumber-requires : tie.Need-renumber-requires
-renumber-requires c κs =
-    let start = c .before .before .before .before .before in
-    renumber-ask (start .pre)
-
-abbrev whole : tie.Start → Arrows
-whole s = arrows (graph (s .args .n) (s .args .sources .now) (s .args .targets .now))
+abbrev counted : tie.After-frees → tie.After-counts
+counted c = c .before .before .before .before
 
 -- the edge numbers at the front
-laid : (c : tie.After-renumber) → let s = c .before .before .before .before .before .before in
-    One (numbered (graph (s .args .n) (s .args .sources .now) (s .args .targets .now))) (s .args .w .now) (c .renumber .last .1 .1 .0 ++ drop (s .args .n + 1 + length (s .args .sources .now)) (s .args .w .now))
-laid c = let s = c .before .before .before .before .before .before in
-    one-laid (numbered (graph (s .args .n) (s .args .sources .now) (s .args .targets .now))) (s .args .w .now) (c .renumber .last .1 .1 .0) (numbers-ask (s .pre)) (c .renumber .ensures)
+laid : (c : tie.After-renumber) → let s = start c in
+    One (numbered (whole s)) (s .args .w .now) (c .renumber .last .1 .1 .0 ++ drop (s .args .n + 1 + length (s .args .sources .now)) (s .args .w .now))
+laid c = let s = start c in one-laid (numbered (whole s)) (s .args .w .now) (c .renumber .last .1 .1 .0) (numbers-ask (s .pre)) (c .renumber .ensures)
 
-mul-fill : tie.Need-mul-fill
-mul-fill c =
-    let start = c .before .before .before .before .before .before .before .before .before in
-    omega (arith, start .pre .ground .small)
+-- what is known of the table when the ranks are 0
+grounded : (c : tie.After-fill) → let s = start (renumbered c) in Ground (whole s) (s .args .label .now) (s .args .b) (c .fill .last .0)
+grounded c = ground-kept (start (renumbered c) .pre .ground) (c .fill .ensures .framed .long ∙ laid (renumbered c) .long)
 
-add-fill : tie.Need-add-fill
-add-fill c =
-    let start = c .before .before .before .before .before .before .before .before .before in
-    omega (arith, start .pre .ground .fits)
+slice-relend-prefix-renumber : tie.Need-slice-relend-prefix-renumber
+slice-relend-prefix-renumber c = numbers-ask (c .before .before .before .before .pre) .room
+
+slice-aggregate-renumber : tie.Need-slice-aggregate-renumber
+slice-aggregate-renumber c = let s = c .before .before .before .before .before in sym (length-take-le _ _ (numbers-ask (s .pre) .room))
+
+renumber-requires : tie.Need-renumber-requires
+renumber-requires c κs = search renumber-ask
 
 fill-requires : tie.Need-fill-requires
-fill-requires c κs =
-    let at-renumber = c .before .before .before in
-    let start = at-renumber .before .before .before .before .before .before in
-    omega (arith, start .pre .ground .fits, laid at-renumber .long)
+fill-requires c κs = let r = c .before .before .before in omega (arith, start r .pre .ground .fits, laid r .long)
 
 counts-requires : tie.Need-counts-requires
-counts-requires c κs =
-    let at-fill = c .before .before .before in
-    let at-renumber = at-fill .before .before .before .before in
-    let start = at-renumber .before .before .before .before .before .before in
-    record { valid = start .pre .ground .valid; size = start .pre .ground .size; labels-low = start .pre .ground .labels-low; small = start .pre .ground .small; few = start .pre .ground .few; fits = omega (arith, start .pre .ground .fits, laid at-renumber .long, at-fill .fill .ensures .framed .long) }
+counts-requires c κs = grounded (c .before .before .before)
 
 frees-requires : tie.Need-frees-requires
-frees-requires c κs =
-    let at-counts = c .before .before .before in
-    let at-fill = at-counts .before .before .before .before in
-    let at-renumber = at-fill .before .before .before .before in
-    let start = at-renumber .before .before .before .before .before .before in
-    record { small = start .pre .ground .small; fits = omega (arith, start .pre .ground .fits, laid at-renumber .long, at-fill .fill .ensures .framed .long, at-counts .counts .ensures .framed .long) }
+frees-requires c κs = let n = c .before .before .before in frees-ask (grounded (filled n)) (n .counts .ensures)
 
 peel-requires : tie.Need-peel-requires
 peel-requires c κs =
-    let at-frees = c .before .before .before in
-    let at-counts = at-frees .before .before .before .before in
-    let at-fill = at-counts .before .before .before .before in
-    let at-renumber = at-fill .before .before .before .before in
-    let start = at-renumber .before .before .before .before .before .before in
-    (whole start, begin (start .pre) (laid at-renumber) (at-fill .fill .ensures) (at-counts .counts .ensures) (at-frees .frees .ensures) (region (inEdges (start .args .n) (start .args .b)) (start .args .w .now)) (λ v l. refl))
-
-same-length : tie.Need-same-length
-same-length c =
-    let at-peel = c .before .before in
-    let at-frees = at-peel .before .before .before .before in
-    let at-counts = at-frees .before .before .before .before in
-    let at-fill = at-counts .before .before .before .before in
-    let at-renumber = at-fill .before .before .before .before in
-    let start = at-renumber .before .before .before .before .before .before in
-    ranks-end (start .pre) (laid at-renumber) (at-fill .fill .ensures) (at-counts .counts .ensures) (at-frees .frees .ensures) _ _ (at-peel .peel .ensures (whole start)) .long
+    let q = c .before .before .before in
+    let f = filled (counted q) in
+    let s = start (renumbered f) in
+    (arrows (whole s), begin (s .pre) (laid (renumbered f)) (f .fill .ensures) (counted q .counts .ensures) (q .frees .ensures) (region (inEdges (s .args .n) (s .args .b)) (s .args .w .now)) (λ v l. refl))
 
 returns : tie.Need-returns
 returns c =
-    let at-peel = c .before .before in
-    let at-frees = at-peel .before .before .before .before in
-    let at-counts = at-frees .before .before .before .before in
-    let at-fill = at-counts .before .before .before .before in
-    let at-renumber = at-fill .before .before .before .before in
-    let start = at-renumber .before .before .before .before .before .before in
-    ranks-end (start .pre) (laid at-renumber) (at-fill .fill .ensures) (at-counts .counts .ensures) (at-frees .frees .ensures) _ _ (at-peel .peel .ensures (whole start))
+    let p = c .before .before in
+    let q = p .before .before .before .before in
+    let f = filled (counted q) in
+    let s = start (renumbered f) in
+    ranks-end (s .pre) (laid (renumbered f)) (f .fill .ensures) (counted q .counts .ensures) (q .frees .ensures) (p .peel .ensures (arrows (whole s)))
+
+same-length : tie.Need-same-length
+same-length c = returns c .long
 
 pub ranks-spec : {M : Type 1} → statement M
 ranks-spec =
     tie.close
     (tie.spec
-    add-k
-    add-k-2
+    (λ c. search needs)
+    (λ c. search needs)
     slice-relend-prefix-renumber
     slice-aggregate-renumber
     renumber-requires
-    mul-fill
-    add-fill
+    (λ c. search needs)
+    (λ c. search needs)
     fill-requires
     counts-requires
     frees-requires

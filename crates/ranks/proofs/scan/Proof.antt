@@ -1,87 +1,59 @@
-use mathlib.Core.Path.{_≡_}
+use mathlib.Core.Path.{_≡_, refl}
 use Prim.Native.Nat.{_≤_, _-_, _+_}
-use native.Mathlib.Omega.{arith}
-use Rattle.graph.specs.Checker.{at}
+use lib.ListN.{length, getD}
 use Rattle.ranks.specs.Peel.{EveryInto, ScanAsk, Scanned}
 use Rattle.ranks.proofs.Scanning.{scan-none, scan-ask, scan-step}
+use borrow.Author.Needs.{needs}
+use native.Mathlib.Omega.{arith}
 use Rattle.ranks.proofs.scan.Statement.{statement}
 use Rattle.ranks.proofs.scan.Tie as tie
 
 abbrev Inv-loop : tie.InvT-loop
-Inv-loop targets n label w₀ b s t u k0 k₀ j₀ w k j = (s ≤ j) × (j ≤ t) × EveryInto n targets (λ g. (a : ScanAsk g label b s t u k0 w₀) → Scanned g label b s j k0 w₀ w k (a .course))
+Inv-loop n targets label w₀ b u k0 k₀ j₀ t₀ w k j =
+    (getD w₀ u 0 ≤ j) × (j ≤ getD w₀ (u + 1) 0) × (length w ≡ length w₀)
+    × EveryInto n targets (λ g. (a : ScanAsk g label b u k0 w₀) → Scanned g label b u j k0 w₀ w k (a .course))
 
 abbrev μ-loop : tie.MeasureT-loop
-μ-loop targets n label w₀ b s t u k0 k₀ j₀ w k j = t - j
+μ-loop n targets label w₀ b u k0 k₀ j₀ t₀ w k j = getD w₀ (u + 1) 0 - j
+
+abbrev start : tie.At-loop Inv-loop μ-loop → tie.Start Inv-loop μ-loop
+start c = c .before .before .before .before .before .before
+
+-- the beginning of a turn, seen from its end
+abbrev turn : tie.After-slice-known5 Inv-loop μ-loop → tie.In-loop Inv-loop μ-loop
+turn c = c .before .before .before .before .before
+
+cast-j : tie.Need-cast-j Inv-loop μ-loop
+cast-j c = omega (arith, c .slice-known2 .given (c .before .before .before .before .args .u))
+
+cast-t : tie.Need-cast-t Inv-loop μ-loop
+cast-t c = let r = c .before in omega (arith, c .slice-known3 .given (r .before .before .before .before .args .u + 1))
 
 loop-holds : tie.Need-loop-holds Inv-loop μ-loop
-loop-holds c =
-    let start = c .before .before .before in
-    (omega arith, start .pre .1 .order, λ g a. scan-none a)
-
-add-e : tie.Need-add-e Inv-loop μ-loop
-add-e c =
-    let at-loop = c .before in
-    let start = at-loop .before .before .before .before in
-    omega (arith, start .pre .1 .below, start .pre .1 .ground .fits, at-loop .loop .inv .2 (start .pre .0) (start .pre .1) .onward .frame .long)
-
-add-e-2 : tie.Need-add-e-2 Inv-loop μ-loop
-add-e-2 c =
-    let at-loop = c .before in
-    let start = at-loop .before .before .before .before in
-    omega (arith, start .pre .1 .below, start .pre .1 .ground .fits, at-loop .loop .inv .2 (start .pre .0) (start .pre .1) .onward .frame .long)
-
-mul-e : tie.Need-mul-e Inv-loop μ-loop
-mul-e c =
-    let at-loop = c .before in
-    let start = at-loop .before .before .before .before in
-    omega (arith, start .pre .1 .below, start .pre .1 .ground .fits, at-loop .loop .inv .2 (start .pre .0) (start .pre .1) .onward .frame .long)
-
-slice-read-e : tie.Need-slice-read-e Inv-loop μ-loop
-slice-read-e c =
-    let at-loop = c .before .before in
-    let start = at-loop .before .before .before .before in
-    omega (arith, start .pre .1 .below, start .pre .1 .ground .fits, at-loop .loop .inv .2 (start .pre .0) (start .pre .1) .onward .frame .long)
+loop-holds c = let (g, a) = c .before .before .before .before .before .pre in (omega arith, a .order, refl, λ g a. scan-none a)
 
 cast-e : tie.Need-cast-e Inv-loop μ-loop
-cast-e c =
-    let at-loop = c .before .before in
-    let start = at-loop .before .before .before .before in
-    omega (arith, c .slice-known2 .given (start .args .n + 1 + at-loop .loop .j))
+cast-e c = let l = c .before .before in omega (arith, c .slice-known4 .given (start l .args .n + 1 + l .loop .j))
 
 settle-requires : tie.Need-settle-requires Inv-loop μ-loop
 settle-requires c κs =
-    let at-loop-test = c .before .before in
-    let at-loop = at-loop-test .before in
-    let start = at-loop .before .before .before .before in
-    let l = at-loop .loop in (start .pre .0, scan-ask (start .pre .1) (l .j) (l .w) (l .k) (l .inv .2 (start .pre .0) (start .pre .1)) (l .inv .0) (at-loop-test .loop-test .taken))
-
-add-j : tie.Need-add-j Inv-loop μ-loop
-add-j c = omega arith
-
-loop-less : tie.Need-loop-less Inv-loop μ-loop
-loop-less c = omega arith
+    let l = c .before .before .before in
+    let (g, a) = start l .pre in
+    (g, scan-ask a (l .loop .inv .3 g a) (l .loop .inv .0) (c .before .before .loop-test .taken))
 
 loop-again : tie.Need-loop-again Inv-loop μ-loop
 loop-again c =
-    let at-settle = c .before .before in
-    let at-loop-test = at-settle .before .before .before in
-    let at-loop = at-loop-test .before in
-    let start = at-loop .before .before .before .before in
-    let l = at-loop .loop in (omega arith, omega arith, λ g a. scan-step a (l .j) (l .w) (l .k) (l .inv .2 g a) (l .inv .0) (at-loop-test .loop-test .taken) _ _ (at-settle .settle .ensures g))
-
-same-length : tie.Need-same-length Inv-loop μ-loop
-same-length c =
-    let at-loop = c .before in
-    let start = at-loop .before .before .before .before in
-    at-loop .loop .inv .2 (start .pre .0) (start .pre .1) .onward .frame .long
+    let (l, _, _, x) = turn c .before .loop .inv in
+    let (g, a) = start (turn c .before) .pre in
+    let y = c .before .before .settle .ensures in
+    let m = turn c .loop-test .taken in
+    (omega arith, omega arith, scan-step a (x g a) l m (y g) .onward .frame .long, λ g a. scan-step a (x g a) l m (y g))
 
 returns : tie.Need-returns Inv-loop μ-loop
 returns c =
-    let at-loop = c .before in
-    let start = at-loop .before .before .before .before in
-    let l = at-loop .loop in
-    let e : l .j ≡ start .args .t = omega arith in
-    λ g a. rw e at (l .inv .2 g a)
+    let l = c .before in
+    let e : l .loop .j ≡ getD (start l .args .w .now) (start l .args .u + 1) 0 = omega arith in
+    λ g a. rw e at (l .loop .inv .3 g a)
 
 pub scan-spec : {M : Type 1} → statement M
 scan-spec =
@@ -89,15 +61,22 @@ scan-spec =
     (tie.spec
     Inv-loop
     μ-loop
+    (λ c. search needs)
+    (λ c. search needs)
+    cast-j
+    (λ c. search needs)
+    (λ c. search needs)
+    (λ c. search needs)
+    cast-t
     loop-holds
-    add-e
-    add-e-2
-    mul-e
-    slice-read-e
+    (λ c. search needs)
+    (λ c. search needs)
+    (λ c. search needs)
+    (λ c. search needs)
     cast-e
     settle-requires
-    add-j
-    loop-less
+    (λ c. search needs)
+    (λ c. search needs)
     loop-again
-    same-length
+    (λ c. search needs)
     returns)

@@ -1,74 +1,40 @@
-use Prim.Native.Nat.{_-_}
-use native.Mathlib.Omega.{arith}
 use Rattle.certificate.proofs.Working.{both-ask, there-ask, find-stop, back-ask, find-end}
+use borrow.Author.Needs.{needs}
 use Rattle.certificate.proofs.work.find.Statement.{statement}
 use Rattle.certificate.proofs.work.find.Tie as tie
 
+abbrev start : tie.After-both → tie.Start
+start c = c .before .before .before .before .before .before
+
+-- where both indexes stand, seen from the first search
+abbrev both : tie.After-distances → tie.After-both
+both c = c .before .before .before .before
+
 both-requires : tie.Need-both-requires
-both-requires c κs =
-    let start = c .before .before .before .before .before in
-    both-ask (start .pre)
+both-requires c κs = search both-ask
 
 distances-requires : tie.Need-distances-requires
-distances-requires c κs =
-    let at-both = c .before .before .before in
-    let start = at-both .before .before .before .before .before .before in
-    there-ask (start .pre) _ (at-both .both .ensures)
-
-same-length : tie.Need-same-length
-same-length c =
-    let at-distances = c .before .before .before in
-    let at-both = at-distances .before .before .before .before in
-    let start = at-both .before .before .before .before .before .before in
-    find-stop (start .pre) _ (at-both .both .ensures) _ _ (at-distances .distances .ensures) (c .if1 .taken) .beyond .long
+distances-requires c κs = let x = c .before .before .before in there-ask (start x .pre) (x .both .ensures)
 
 returns : tie.Need-returns
-returns c =
-    let at-distances = c .before .before .before in
-    let at-both = at-distances .before .before .before .before in
-    let start = at-both .before .before .before .before .before .before in
-    find-stop (start .pre) _ (at-both .both .ensures) _ _ (at-distances .distances .ensures) (c .if1 .taken)
+returns c = search find-stop
 
-add-k : tie.Need-add-k
-add-k c =
-    let start = c .before .before .before .before .before .before .before .before .before .before .before .before .before in
-    omega (arith, start .pre .ask .small, start .pre .ask .few)
-
-add-k-2 : tie.Need-add-k-2
-add-k-2 c =
-    let start = c .before .before .before .before .before .before .before .before .before .before .before .before .before in
-    omega (arith, start .pre .ask .small, start .pre .ask .few)
-
-add-distances : tie.Need-add-distances
-add-distances c =
-    let start = c .before .before .before .before .before .before .before .before .before .before .before .before .before .before in
-    omega (arith, start .pre .ask .small, start .pre .ask .few, start .pre .place)
+same-length : tie.Need-same-length
+same-length c = returns c .beyond .long
 
 distances-requires-2 : tie.Need-distances-requires-2
 distances-requires-2 c κs =
-    let at-if1 = c .before in
-    let at-distances = at-if1 .before .before .before in
-    let at-both = at-distances .before .before .before .before in
-    let start = at-both .before .before .before .before .before .before in
-    back-ask (start .pre) _ (at-both .both .ensures) _ _ (at-distances .distances .ensures) (at-if1 .if1 .left)
-
-same-length-2 : tie.Need-same-length-2
-same-length-2 c =
-    let at-distances2 = c .before .before in
-    let at-if1 = at-distances2 .before .before in
-    let at-distances = at-if1 .before .before .before in
-    let at-both = at-distances .before .before .before .before in
-    let start = at-both .before .before .before .before .before .before in
-    find-end (start .pre) _ (at-both .both .ensures) _ _ (at-distances .distances .ensures) (at-if1 .if1 .left) _ _ (at-distances2 .distances2 .ensures) .beyond .long
+    let d = c .before .before .before .before in
+    back-ask (start (both d) .pre) (both d .both .ensures) (d .distances .ensures) (c .before .if1 .left)
 
 returns-2 : tie.Need-returns-2
 returns-2 c =
-    let at-distances2 = c .before .before in
-    let at-if1 = at-distances2 .before .before in
-    let at-distances = at-if1 .before .before .before in
-    let at-both = at-distances .before .before .before .before in
-    let start = at-both .before .before .before .before .before .before in
-    find-end (start .pre) _ (at-both .both .ensures) _ _ (at-distances .distances .ensures) (at-if1 .if1 .left) _ _ (at-distances2 .distances2 .ensures)
+    let e = c .before .before .before .before in
+    let d = e .before .before .before in
+    find-end (start (both d) .pre) (both d .both .ensures) (d .distances .ensures) (e .if1 .left) (c .before .before .distances2 .ensures)
+
+same-length-2 : tie.Need-same-length-2
+same-length-2 c = returns-2 c .beyond .long
 
 pub find-spec : {M : Type 1} → statement M
 find-spec =
@@ -78,9 +44,9 @@ find-spec =
     distances-requires
     same-length
     returns
-    add-k
-    add-k-2
-    add-distances
+    (λ c. search needs)
+    (λ c. search needs)
+    (λ c. search needs)
     distances-requires-2
     same-length-2
     returns-2)

@@ -1,6 +1,8 @@
-use Prim.Native.Nat.{_+_, _-_}
+use Prim.Native.Nat.{_+_, _-_, _<_}
 use native.Mathlib.Omega.{arith}
-use lib.ListN.{getD}
+use lib.ListN.{length, getD}
+use borrow.Author.Needs.{needs}
+use Rattle.paths.specs.Walk.{sourceAt}
 use Rattle.paths.proofs.Walks.{Passing, pass-step}
 use Rattle.paths.proofs.walk.first.Statement.{statement}
 use Rattle.paths.proofs.walk.first.Tie as tie
@@ -14,51 +16,24 @@ abbrev μ-loop : tie.MeasureT-loop
 loop-holds : tie.Need-loop-holds Inv-loop μ-loop
 loop-holds c = record { low = omega arith; high = c .pre .order; before = λ j h q. absurd (omega arith) }
 
-add-e : tie.Need-add-e Inv-loop μ-loop
-add-e c = omega (arith, c .before .before .pre .fits)
+-- the number at the place is an edge's, and its source has a colour
+edge : (c : tie.In-loop Inv-loop μ-loop) → let s = c .before .before .args in getD (s .w .now) (s .eb + c .before .loop .i) 0 < length (s .sources .now)
+edge c = c .before .before .pre .edges _ (c .before .loop .inv .low) (c .loop-test .taken)
 
-mul-e : tie.Need-mul-e Inv-loop μ-loop
-mul-e c = omega (arith, c .before .before .pre .fits)
-
-shared-slice-read-e : tie.Need-shared-slice-read-e Inv-loop μ-loop
-shared-slice-read-e c = omega (arith, c .before .before .before .pre .fits, c .before .loop-test .taken)
-
-cast-e : tie.Need-cast-e Inv-loop μ-loop
-cast-e c = omega (arith, c .before .before .before .pre .edges _ (c .before .before .loop .inv .low) (c .before .loop-test .taken))
-
-mul-x : tie.Need-mul-x Inv-loop μ-loop
-mul-x c = omega (arith, c .before .before .before .pre .edges _ (c .before .before .loop .inv .low) (c .before .loop-test .taken))
-
-shared-slice-read-x : tie.Need-shared-slice-read-x Inv-loop μ-loop
-shared-slice-read-x c = omega (arith, c .before .before .before .before .pre .edges _ (c .before .before .before .loop .inv .low) (c .before .before .loop-test .taken))
-
-cast-x : tie.Need-cast-x Inv-loop μ-loop
-cast-x c = omega (arith, c .before .before .before .before .pre .ends _ (c .before .before .before .loop .inv .low) (c .before .before .loop-test .taken))
-
-add-y : tie.Need-add-y Inv-loop μ-loop
-add-y c = omega (arith, c .before .before .before .before .pre .ends _ (c .before .before .before .loop .inv .low) (c .before .before .loop-test .taken))
-
-mul-y : tie.Need-mul-y Inv-loop μ-loop
-mul-y c = omega (arith, c .before .before .before .before .pre .ends _ (c .before .before .before .loop .inv .low) (c .before .before .loop-test .taken))
-
-shared-slice-read-y : tie.Need-shared-slice-read-y Inv-loop μ-loop
-shared-slice-read-y c = omega (arith, c .before .before .before .before .before .pre .ends _ (c .before .before .before .before .loop .inv .low) (c .before .before .before .loop-test .taken))
+source : (c : tie.In-loop Inv-loop μ-loop) → let s = c .before .before .args in s .b + sourceAt (s .sources .now) (s .w .now) (s .eb) (c .before .loop .i) < length (s .w .now)
+source c = c .before .before .pre .ends _ (c .before .loop .inv .low) (c .loop-test .taken)
 
 cast-y : tie.Need-cast-y Inv-loop μ-loop
-cast-y c = let s = c .before .before .before .before .before in
-    omega (arith, c .shared-slice-known3 .given (s .args .b + getD (s .args .sources .now) (getD (s .args .w .now) (s .args .eb + c .before .before .before .before .loop .i) 0) 0))
+cast-y c =
+    let l = c .before .before .before .before in
+    let s = l .before .args in
+    omega (arith, c .shared-slice-known3 .given (s .b + sourceAt (s .sources .now) (s .w .now) (s .eb) (l .loop .i)))
 
 returns : tie.Need-returns Inv-loop μ-loop
-returns c = let l = c .before .before .before .before .before .loop in record { low = l .inv .low; high = l .inv .high; before = l .inv .before; here = λ _. c .if1 .taken }
-
-add-i : tie.Need-add-i Inv-loop μ-loop
-add-i c = omega arith
-
-loop-less : tie.Need-loop-less Inv-loop μ-loop
-loop-less c = omega arith
+returns c = let x = c .before in let l = x .before .before .before .before .loop in record { low = l .inv .low; high = l .inv .high; before = l .inv .before; here = λ _. c .if1 .taken }
 
 loop-again : tie.Need-loop-again Inv-loop μ-loop
-loop-again c = pass-step (c .before .before .before .before .loop-test .taken) (c .if1 .left) (c .before .before .before .before .before .loop .inv)
+loop-again c = let l = c .before .before .before .before in pass-step (l .loop-test .taken) (c .if1 .left) (l .before .loop .inv)
 
 returns-2 : tie.Need-returns-2 Inv-loop μ-loop
 returns-2 c = let l = c .before .loop in record { low = l .inv .low; high = l .inv .high; before = l .inv .before; here = λ h. absurd (omega arith) }
@@ -70,19 +45,19 @@ first-spec =
     Inv-loop
     μ-loop
     loop-holds
-    add-e
-    mul-e
-    shared-slice-read-e
-    cast-e
-    mul-x
-    shared-slice-read-x
-    cast-x
-    add-y
-    mul-y
-    shared-slice-read-y
+    (λ c. search needs)
+    (λ c. search needs)
+    (λ c. search needs)
+    (λ c. omega (arith, edge (c .before)))
+    (λ c. omega (arith, edge (c .before)))
+    (λ c. omega (arith, edge (c .before .before)))
+    (λ c. omega (arith, source (c .before .before)))
+    (λ c. omega (arith, source (c .before .before)))
+    (λ c. omega (arith, source (c .before .before)))
+    (λ c. omega (arith, source (c .before .before .before)))
     cast-y
     returns
-    add-i
-    loop-less
+    (λ c. search needs)
+    (λ c. search needs)
     loop-again
     returns-2)
