@@ -2,7 +2,6 @@
 use Prim.Native.Nat.{ℕ, _≤_}
 use native.Mathlib.Omega.{arith}
 use mathlib.Core.Path.{_≡_, _∙_}
-use mathlib.Core.Bool.{not}
 use mathlib.Core.List.{List}
 use lib.ListN.{length, replicate}
 use borrow.Author.Tests.{eq-eqb, le-ltb}

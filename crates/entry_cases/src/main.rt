@@ -1,5 +1,16 @@
 // Calls the entry on each text that its arguments name and writes the label file, or the number of the refusal.
+ghost use Rattle.io.specs.Counts.{Counts};
 use labels::Answer;
+
+// The count of bytes at the front of the buffer; 0 if it has fewer.
+fn fitting(bytes: usize, buf: &[u8]) -> usize
+    ensures { λ r. ⌜ Counts r (now (buf .entry)) ⌝ }
+{
+    if buf.len() < bytes {
+        return 0;
+    }
+    io::count(bytes as isize, buf)
+}
 
 fn refused(k: u32) {
     io::write_all(1, b"refused ");
@@ -12,7 +23,7 @@ fn label(text: &[u8]) {
     match entry::label_text(text, &mut out) {
         Answer::Refused(k) => refused(k),
         Answer::Done { bytes } => {
-            let k = io::count(bytes as isize, &out);
+            let k = fitting(bytes, &out);
             io::write_all(1, &out[..k]);
         }
     }

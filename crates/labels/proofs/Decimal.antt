@@ -1,6 +1,6 @@
 -- Numbers in decimal.
 use Prim.Native.Nat.{ℕ, zero, suc, _+_, _*_, _-_, _^_, _≤_, _<_}
-use native.Mathlib.Nat.{pow-suc, pow-le-pow-right}
+use native.Mathlib.Nat.{pow-suc, pow-le-pow-right, lt-of-not-le}
 use native.Mathlib.Numerals.{add-one}
 use native.Mathlib.Decide.{decLt}
 use native.Mathlib.Omega.{arith}
@@ -13,16 +13,13 @@ use Rattle.graph.proofs.Tests.{least-passes, least-first}
 use Rattle.labels.specs.File.{width, digits, decimal}
 use Rattle.labels.specs.Steps.{mostNumber, Measured}
 
-not-below : {m n : ℕ} → (m < n → ⊥) → n ≤ m
-not-below {m} {n} h = omega arith
-
 -- the smallest power above x gives its width
 width-is : (x d : ℕ) → x < 10 ^ (d + 1) → d < 19 → ((j : ℕ) → j < d → 10 ^ (j + 1) ≤ x) → width x ≡ 1 + d
 unfolding width
 width-is x d h l low =
     let f : ℕ → Bool = λ k. ltb x (10 ^ (k + 1)) in
     let a = least-first 19 f d l (lt→ltb x (10 ^ (d + 1)) h) in
-    let b = not-below (λ s. omega (arith, low (least 19 f) s, ltb→lt x (10 ^ (least 19 f + 1)) (least-passes 19 f (omega arith)))) in
+    let b = lt-of-not-le (λ (s : suc (least 19 f) ≤ d). omega (arith, low (least 19 f) s, ltb→lt x (10 ^ (least 19 f + 1)) (least-passes 19 f (omega arith)))) in
     omega arith
 
 pub digits-length : (k x : ℕ) → length (digits k x) ≡ k
@@ -33,12 +30,6 @@ digits-length (suc k) x = ap suc (digits-length k x)
 pub decimal-length : (x : ℕ) → length (decimal x) ≡ width x
 unfolding decimal
 decimal-length x = digits-length (width x) x
-
-pub power-some : (k : ℕ) → 1 ≤ 10 ^ k
-power-some k =
-    let z : 0 ≤ k = omega arith in
-    let p : 10 ^ 0 ≤ 10 ^ k = pow-le-pow-right (omega arith) z in
-    p
 
 -- the power grows past x
 pub record Growing (x d power : ℕ) : Type 0 where
@@ -63,10 +54,7 @@ module _ (x d power : ℕ) (g : Growing x d power) where
       }
     where
       small : d < 10
-      small = not-above (λ (s : 10 ≤ d). let p : 10 ^ 10 ≤ 10 ^ d = pow-le-pow-right (omega arith) s in omega (arith, g .is))
-        where
-          not-above : (10 ≤ d → ⊥) → d < 10
-          not-above s = omega arith
+      small = lt-of-not-le (λ (s : 10 ≤ d). let p : 10 ^ 10 ≤ 10 ^ d = pow-le-pow-right (omega arith) s in omega (arith, g .is))
 
       go : (j : ℕ) → j + 1 < d + 1 → Dec (j + 1 < d) → 10 ^ (j + 1) ≤ x
       go j s (yes l) = g .low j l

@@ -1,8 +1,5 @@
 // Bytes and numbers put into a lent buffer, one after the other.
-ghost use mathlib.Core.Path.{_≡_};
-ghost use mathlib.Core.List.{List};
 ghost use Prim.Native.Nat.{_+_, _≤_};
-ghost use lib.ListN.{length};
 ghost use Rattle.labels.specs.File.{decimal, line, labelLines};
 ghost use Rattle.labels.specs.Steps.{mostNumber, Measured, Written, Fits};
 use lines::pieces;

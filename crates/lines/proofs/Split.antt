@@ -10,8 +10,10 @@ use lib.Dec.{eqb, ltb}
 use lib.ListN.{length, getD, take, drop, drop-of-length-le, length-drop}
 use lib.Seq.{drop-cons, drop-drop}
 use borrow.Author.Tests.{eq-eqb, ne-eqb, ltb-true, ltb-false}
+use Rattle.lines.specs.declared.pieces.Piece.{Piece}
 use Rattle.lines.specs.declared.pieces.Piece.the-variants.{At, None}
 use Rattle.lines.specs.Pieces.{before, split, run, pieceEnd, pastEnd, pieceAt}
+use Rattle.lines.specs.Answers.{Ended}
 
 cond-le : (t : Bool) {a b n : ℕ} → a ≤ n → b ≤ n → cond t a b ≤ n
 cond-le true p q = p
@@ -28,7 +30,7 @@ first-more stop b true s e = refl
 first-more stop b false s e = ap (before b) e
 
 module _ (stop : ℕ) where
-  pub run-le : (s : List ℕ) → run stop s ≤ length s
+  run-le : (s : List ℕ) → run stop s ≤ length s
   unfolding run
   run-le [] = omega arith
   run-le (x ∷ xs) = let h = run-le xs in cond-le (eqb x stop) (omega arith) (omega arith)
@@ -39,23 +41,22 @@ module _ (stop : ℕ) where
   split-first b [] = first-one stop b (eqb b stop)
   split-first b (c ∷ s) = first-more stop b (eqb b stop) (c ∷ s) (split-first c s)
 
-  module _ (s : List ℕ) (i : ℕ) where
-    pub run-step : i < length s → (getD s i 0 ≡ stop → ⊥) → run stop (drop i s) ≡ suc (run stop (drop (i + 1) s))
+  -- the end of the piece at `at` is looked for up to i
+  module _ (s : List ℕ) (at i : ℕ) (so-far : pieceEnd stop s at ≡ pieceEnd stop s i) where
+    pub run-step : i < length s → (getD s i 0 ≡ stop → ⊥) → pieceEnd stop s at ≡ pieceEnd stop s (i + 1)
     unfolding run
-    run-step h n = rw (add-one, drop-cons s i 0) (simp (ne-eqb _ _ n))
+    run-step h n = so-far ∙ rw (add-one, drop-cons s i 0) (simp (ne-eqb _ _ n) (omega arith))
 
-    pub run-stop : i < length s → getD s i 0 ≡ stop → run stop (drop i s) ≡ 0
+    pub run-stop : i < length s → getD s i 0 ≡ stop → Ended s at stop i
     unfolding run
-    run-stop h e = rw (drop-cons s i 0) (simp (eq-eqb _ _ e))
+    run-stop h e = record { exact = sym (so-far ∙ rw (drop-cons s i 0) (simp (eq-eqb _ _ e) (omega arith))); within = omega arith }
 
-    pub run-none : length s ≤ i → run stop (drop i s) ≡ 0
+    pub run-none : length s ≤ i → i ≤ length s → Ended s at stop i
     unfolding run
-    run-none h = rw (drop-of-length-le s h)
+    run-none h k = record { exact = sym (so-far ∙ rw (drop-of-length-le s h) (omega arith)); within = k }
 
 -- what the bounds of a piece say
 pub record Known (stop : ℕ) (s : List ℕ) (at a e n : ℕ) : Type 0 where
-  pub inside : at < length s
-  pub starts : a ≡ at
   pub order : a ≤ e
   pub ends : e ≤ length s
   pub onward : at < n
@@ -92,8 +93,6 @@ piece-bounds stop s at h =
     let l : pieceEnd stop s at ≤ length s = omega arith in
     let e = pieceEnd stop s at in
     record {
-      inside = h;
-      starts = refl;
       order = omega arith;
       ends = l;
       onward = past-over at e (length s) (ltb e (length s)) refl (omega arith) h;
@@ -114,13 +113,24 @@ unfolding split
 none′ true stop s at p q = let z : _≡_ {A = ℕ} 0 1 = cc in absurd (omega arith)
 none′ false stop s at p q = rw (drop-of-length-le s (ltb-false _ _ p))
 
-module _ (stop : ℕ) (s : List ℕ) (at : ℕ) where
-  pub piece-known : (a e n : ℕ) → pieceAt stop s at ≡ At a e n → Known stop s at a e n
-  piece-known a e n q = known′ (ltb at (length s)) stop s at a e n refl q
+-- what an answer of the reader says
+module _ (stop : ℕ) (s : List ℕ) (at : ℕ) (p : Piece) (told : p ≡ pieceAt stop s at) where
+  pub piece-none : p ≡ None → split stop (drop at s) ≡ []
+  piece-none q = none′ (ltb at (length s)) stop s at refl (sym told ∙ q)
 
-  pub piece-none : pieceAt stop s at ≡ None → split stop (drop at s) ≡ []
-  piece-none q = none′ (ltb at (length s)) stop s at refl q
+  module _ (a e n : ℕ) (is : p ≡ At a e n) where
+    pub piece-known : Known stop s at a e n
+    piece-known = known′ (ltb at (length s)) stop s at a e n refl (sym told ∙ is)
 
--- the same of a list w that has the piece's bytes
-pub piece-left : (stop : ℕ) (s : List ℕ) (at a e n : ℕ) → Known stop s at a e n → (w : List ℕ) → w ≡ take (e - a) (drop a s) → split stop (drop at s) ≡ w ∷ split stop (drop n s)
-piece-left stop s at a e n k w is = k .pieces ∙ ap (λ (x : List ℕ). x ∷ split stop (drop n s)) (sym is)
+    pub piece-order : a ≤ e
+    piece-order = piece-known .order
+
+    pub piece-ends : e ≤ length s
+    piece-ends = piece-known .ends
+
+    pub piece-less : length s - n < length s - at
+    piece-less = let k = piece-known in omega arith
+
+    -- the same of a list w that has the piece's bytes
+    pub piece-left : (w : List ℕ) → w ≡ take (e - a) (drop a s) → split stop (drop at s) ≡ w ∷ split stop (drop n s)
+    piece-left w same = piece-known .pieces ∙ ap (λ (x : List ℕ). x ∷ split stop (drop n s)) (sym same)

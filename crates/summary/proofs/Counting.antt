@@ -2,7 +2,7 @@
 use Prim.Native.Nat.{ℕ, _+_, _-_, _≤_, _<_, max}
 use native.Mathlib.Omega.{arith}
 use native.Mathlib.Decide.{ℕ-discrete}
-use mathlib.Core.Path.{_≡_, refl, sym, ap, _∙_}
+use mathlib.Core.Path.{_≡_, refl, ap, _∙_}
 use mathlib.Core.Bool.{Bool, true, false}
 use mathlib.Core.List.{List}
 use lib.ListN.{length, getD, set, replicate, length-set, length-replicate, getD-replicate}
@@ -16,9 +16,20 @@ use Rattle.graph.proofs.Counts.{many-le}
 use Rattle.graph.proofs.Ranges.{many-ext, many-add, many-next, most-ext, most-add, most-next}
 use Rattle.summary.specs.Counts.{one, Low, Added, Upto, Fresh, Counted, Folded}
 
-pub one-le : (b : Bool) → one b ≤ 1
+one-le : (b : Bool) → one b ≤ 1
 one-le true = omega arith
 one-le false = omega arith
+
+-- how many of the first v numbers pass a test, and the next one
+module _ (f : ℕ → Bool) (v n : ℕ) (so-far : n ≡ many f v) where
+  pub many-room : (s : ℕ) → s ≡ one (f v) → n + s ≤ v + 1
+  many-room s e = omega (arith, one-le (f v), many-le f v)
+
+  pub many-step : (s : ℕ) → s ≡ one (f v) → n + s ≡ many f (v + 1)
+  many-step s e = omega (arith, many-next f v)
+
+  pub many-all : (k : ℕ) → k ≤ v → v ≤ k → n ≡ many f k
+  many-all k h l = let e : v ≡ k = omega arith in rw e at so-far
 
 -- a label outside the block changes nothing
 pub added-none : (low l : ℕ) (counts : List ℕ) → ((j : ℕ) → j < length counts → l ≡ low + j → ⊥) → Added low l counts counts
@@ -51,12 +62,12 @@ module _ {label : List ℕ} {low : ℕ} where
             a .at-each j (omega (arith, a .long)) ∙ omega (arith, u .shared j (omega (arith, a .long)), many-next (λ v. eqb (getD label v 0) (low + j)) k);
       }
 
-  pub upto-low : {k : ℕ} {counts : List ℕ} → k < mostVertices → Upto label low k counts → Low counts
-  upto-low {k} h u j i = omega (arith, u .shared j i, many-le (λ v. eqb (getD label v 0) (low + j)) k)
+  pub upto-low : {k : ℕ} {counts counts₀ : List ℕ} → Fresh label counts₀ → k < length label → Upto label low k counts → Low counts
+  upto-low {k} f h u j i = omega (arith, f .few, u .shared j i, many-le (λ v. eqb (getD label v 0) (low + j)) k)
 
-  pub upto-all : {k : ℕ} {counts : List ℕ} → k ≡ length label → Upto label low k counts → Counted label low counts
+  pub upto-all : {k : ℕ} {counts : List ℕ} → length label ≤ k → k ≤ length label → Upto label low k counts → Counted label low counts
   unfolding sharing
-  upto-all e u = record { shared = rw e at (u .shared) }
+  upto-all {k} h l u = let e : k ≡ length label = omega arith in record { shared = rw e at (u .shared) }
 
 pub folded-none : {f : ℕ → ℕ} → Folded f 0 0 0
 unfolding many most
@@ -84,6 +95,12 @@ folded-join f {low} {k} g q a b =
       largest-is = omega (arith, a .largest-is, b .largest-is, most-add f low k);
     }
 
+pub folded-all : {f : ℕ → ℕ} {j k r l : ℕ} → k ≤ j → j ≤ k → Folded f j r l → Folded f k r l
+folded-all {f} {j} {k} h l a = let e : j ≡ k = omega arith in rw e at a
+
 -- at most as many rings as numbers
 pub folded-few : {f : ℕ → ℕ} {k r l : ℕ} → Folded f k r l → r ≤ k
 folded-few {f} {k} h = omega (arith, h .rings-are, many-le (λ j. leb 2 (f j)) k)
+
+pub folded-room : {f : ℕ → ℕ} {k r l : ℕ} (s : ℕ) → s ≡ one (leb 2 (f k)) → Folded f k r l → r + s ≤ k + 1
+folded-room {f} {k} s e h = omega (arith, folded-few h, one-le (leb 2 (f k)))

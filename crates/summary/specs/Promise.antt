@@ -7,7 +7,7 @@ use lib.ListN.{length}
 use lib.Dec.{eqb, ltb}
 use Rattle.graph.specs.Limits.{mostVertices, tooManyVertices, wrongLength, vertexOutside}
 use Rattle.graph.specs.Refusal.{given, _or_, outside}
-use Rattle.graph.specs.Summary.{Summary, summary}
+use Rattle.graph.specs.Summary.{summary}
 use Rattle.summary.specs.declared.Answer.{Answer}
 use Rattle.summary.specs.declared.Answer.the-variants.{Done, Refused}
 

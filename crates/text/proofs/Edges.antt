@@ -1,78 +1,96 @@
 -- The entry lines.
 use Prim.Native.Nat.{ℕ, zero, suc, _+_, _-_, _≤_, _<_}
+use native.Mathlib.Numerals.{add-one}
 use native.Mathlib.Omega.{arith}
 use mathlib.Core.Path.{_≡_, refl, sym, _∙_, ap}
-use mathlib.Core.Bool.{Bool, true, false, cond, _&&_}
-use mathlib.Core.List.{List, [], _∷_, _++_, map, append-nil, append-assoc}
+use mathlib.Core.Bool.{Bool, true, false, cond, not, _&&_}
+use mathlib.Core.List.{List, [], _∷_, _++_, append-assoc}
 use lib.Dec.{eqb, leb}
-use lib.ListN.{length, getD, take, drop, set, length-append, length-map, length-drop}
-use lib.Seq.{drop-cons, set-at}
-use borrow.Author.Tests.{eqb-true, ne-eqb, leb-true, le-leb, lt-leb}
-use borrow.Table.Elements.{map-app}
-use Rattle.lines.specs.Pieces.{LF, lines}
-use Rattle.lines.specs.Numbers.{Content, faulty, numbers, content}
-use Rattle.lines.specs.Answers.{foundOf}
+use lib.ListN.{length, take, drop, set, length-set, take-append-drop, drop-of-length-le}
+use lib.Seq.{take-suc-set, drop-set-lt, drop-drop}
+use borrow.Author.Tests.{ne-eqb, le-leb, lt-leb, not-true, not-false}
+use Rattle.lines.specs.Pieces.{LF, lines, pieceAt}
+use Rattle.lines.specs.Numbers.{numbers, content}
+use Rattle.lines.specs.Answers.{shown}
 use Rattle.lines.specs.declared.numbers.Found.{Found}
-use Rattle.lines.proofs.Split.{Known, piece-left}
+use Rattle.lines.specs.declared.numbers.Row.{Row}
+use Rattle.lines.specs.declared.numbers.Row.the-variants.{Numbers, Faulty as FaultyRow}
+use Rattle.lines.specs.declared.pieces.Piece.{Piece}
+use Rattle.lines.specs.declared.pieces.Piece.the-variants.{At, None}
+use Rattle.lines.proofs.Split.{piece-none, piece-left}
+use Rattle.lines.proofs.Rows.{Read, row-faulty, row-held, found-none, found-two}
 use Rattle.text.specs.declared.entries.Entry.{Entry}
 use Rattle.text.specs.declared.entries.Entry.the-variants.{Blank, Edge, Faulty}
 use Rattle.text.specs.declared.entries.Left.{Left}
 use Rattle.text.specs.declared.entries.Left.the-variants.{Is, Faulty as TooMany}
 use Rattle.text.specs.Market.{Result, refused, done, Arrow, inside, entryOf, withEdge, atEntry, entries}
 use Rattle.text.specs.Steps.{isDone, leftAfter, placeAfter, sourcesAfter, targetsAfter, Put, column, FillAsk, edgesOf, Filled}
+use Rattle.text.proofs.Tables.{inside-both, entries-count}
 
 module _ (n i : ℕ) where
-  pub inside-none : i < 1 → inside n i ≡ false
+  pub inside-none : i < 1 → false ≡ inside n i
   unfolding inside
   inside-none h = rw (lt-leb _ _ h)
 
-  pub inside-some : 1 ≤ i → inside n i ≡ leb i n
+  pub inside-some : 1 ≤ i → leb i n ≡ inside n i
   unfolding inside
   inside-some h = rw (le-leb _ _ h)
 
-  pub inside-low : inside n i ≡ true → 1 ≤ i
-  unfolding inside
-  inside-low e = go (leb 1 i) refl e
-    where
-      go : (t : Bool) → leb 1 i ≡ t → (t && leb i n) ≡ true → 1 ≤ i
-      go true p q = leb-true 1 i p
-      go false p q = let z : _≡_ {A = ℕ} 0 1 = cc in absurd (omega arith)
+  pub inside-low : (t : Bool) → t ≡ inside n i → not t ≡ false → 1 ≤ i
+  inside-low t e f = inside-both n i (sym e ∙ not-false t f) .0
 
 -- one line
-module _ (n : ℕ) where
-  pub entry-faulty : (c : Content) → c ≡ faulty → entryOf n c ≡ Faulty
+module _ (n : ℕ) (line : List ℕ) (row : Row) (seen : row ≡ shown (content line)) where
+  pub entry-faulty : row ≡ FaultyRow → Faulty ≡ entryOf n (content line)
   unfolding entryOf
-  entry-faulty c e = rw e
+  entry-faulty e = rw (row-faulty row (content line) seen e)
 
-  module _ (c : Content) (f : Found) where
-    pub entry-blank : (vs : List ℕ) → c ≡ numbers vs → f ≡ foundOf vs → f .count ≡ 0 → entryOf n c ≡ Blank
-    unfolding entryOf
-    entry-blank [] e h k = rw e
-    entry-blank (x ∷ vs) e h k = absurd (omega (arith, ap (λ (g : Found). g .count) h))
+  module _ (f : Found) (is : row ≡ Numbers f) where
+    held : Read [] (content line) f
+    held = row-held row (content line) seen f is
 
-    pub entry-other : (vs : List ℕ) → c ≡ numbers vs → f ≡ foundOf vs → (f .count ≡ 0 → ⊥) → (f .count ≡ 2 → ⊥) → entryOf n c ≡ Faulty
+    pub entry-blank : f .count ≡ 0 → Blank ≡ entryOf n (content line)
     unfolding entryOf
-    entry-other [] e h k m = absurd (k (ap (λ (g : Found). g .count) h))
-    entry-other (x ∷ []) e h k m = rw e
-    entry-other (x ∷ y ∷ []) e h k m = absurd (m (ap (λ (g : Found). g .count) h))
-    entry-other (x ∷ y ∷ z ∷ vs) e h k m = rw e
+    entry-blank k = rw (held .is, found-none (held .us) f (held .held) k)
 
-    pub entry-two : (vs : List ℕ) → c ≡ numbers vs → f ≡ foundOf vs → f .count ≡ 2 → entryOf n c ≡ cond (inside n (f .first) && inside n (f .second)) (Edge (f .first - 1) (f .second - 1)) Faulty
+    pub entry-other : (f .count ≡ 0 → ⊥) → (f .count ≡ 2 → ⊥) → Faulty ≡ entryOf n (content line)
     unfolding entryOf
-    entry-two [] e h k = absurd (omega (arith, ap (λ (g : Found). g .count) h))
-    entry-two (x ∷ []) e h k = absurd (omega (arith, ap (λ (g : Found). g .count) h))
-    entry-two (x ∷ y ∷ []) e h k = rw (e, h)
-    entry-two (x ∷ y ∷ z ∷ vs) e h k = absurd (omega (arith, ap (λ (g : Found). g .count) h))
+    entry-other k m = rw (held .is) (other (held .us) (λ q. k (many ∙ q)) (λ q. m (many ∙ q)))
+      where
+        many : f .count ≡ length (held .us)
+        many = ap (λ (g : Found). g .count) (held .held)
+
+        other : (vs : List ℕ) → (length vs ≡ 0 → ⊥) → (length vs ≡ 2 → ⊥) → Faulty ≡ entryOf n (numbers vs)
+        other [] k m = absurd (k refl)
+        other (x ∷ []) k m = refl
+        other (x ∷ y ∷ []) k m = absurd (m refl)
+        other (x ∷ y ∷ z ∷ vs) k m = refl
+
+    module _ (two : f .count ≡ 2) (t : Bool) (first : t ≡ inside n (f .first)) where
+      entry-two : entryOf n (content line) ≡ cond (t && inside n (f .second)) (Edge (f .first - 1) (f .second - 1)) Faulty
+      unfolding entryOf
+      entry-two = rw (held .is, found-two (held .us) f (held .held) two, first)
+
+      pub entry-first : not t ≡ true → Faulty ≡ entryOf n (content line)
+      entry-first a = rw (entry-two, not-true t a)
+
+      module _ (right : not t ≡ false) (t' : Bool) (second : t' ≡ inside n (f .second)) where
+        pub entry-second : not t' ≡ true → Faulty ≡ entryOf n (content line)
+        entry-second a = rw (entry-two, not-false t right, ← second, not-true t' a)
+
+        pub entry-edge : not t' ≡ false → Edge (f .first - 1) (f .second - 1) ≡ entryOf n (content line)
+        entry-edge a = rw (entry-two, not-false t right, ← second, not-false t' a)
 
 -- how many are still to come after an edge
-pub left-none : (x : Entry) (s t k : ℕ) → x ≡ Edge s t → k ≡ 0 → leftAfter x k ≡ TooMany
-unfolding leftAfter
-left-none x s t k e z = rw (e, z)
+module _ (x : Entry) (s t : ℕ) (e : x ≡ Edge s t) where
+  pub left-none : (k : ℕ) → k ≡ 0 → TooMany ≡ leftAfter x k
+  unfolding leftAfter
+  left-none k z = rw (e, z)
 
-pub left-some : (x : Entry) (s t k : ℕ) → x ≡ Edge s t → (k ≡ 0 → ⊥) → leftAfter x k ≡ Is (k - 1)
-unfolding leftAfter
-left-some x s t zero e n = absurd (n refl)
-left-some x s t (suc k) e n = rw e (ap Is (omega arith))
+  pub left-some : (k : ℕ) → (k ≡ 0 → ⊥) → Is (k - 1) ≡ leftAfter x k
+  unfolding leftAfter
+  left-some zero n = absurd (n refl)
+  left-some (suc k) n = rw e (ap Is (omega arith))
 
 -- judging: only whether the rest is right matters
 edge-done : (a : Arrow) (r : Result (List Arrow)) → isDone (withEdge a r) ≡ isDone r
@@ -80,66 +98,38 @@ unfolding isDone withEdge
 edge-done a (refused k) = refl
 edge-done a (done es) = refl
 
-entry-goes : (e : Entry) (k j : ℕ) (after : ℕ → Result (List Arrow)) → leftAfter e k ≡ Is j → isDone (atEntry e k after) ≡ isDone (after j)
-unfolding leftAfter atEntry
-entry-goes Blank k j after q = let h : k ≡ j = cc in rw h
-entry-goes Faulty k j after q = let z : _≡_ {A = ℕ} 0 1 = cc in absurd (omega arith)
-entry-goes (Edge s t) zero j after q = let z : _≡_ {A = ℕ} 0 1 = cc in absurd (omega arith)
-entry-goes (Edge s t) (suc k) j after q = let h : k ≡ j = cc in edge-done (record { source = s; target = t }) (after k) ∙ rw h
+abbrev doneAfter : Left → (ℕ → Result (List Arrow)) → Bool
+doneAfter TooMany after = false
+doneAfter (Is j) after = isDone (after j)
 
-entry-stops : (e : Entry) (k : ℕ) (after : ℕ → Result (List Arrow)) → leftAfter e k ≡ TooMany → isDone (atEntry e k after) ≡ false
+entry-done : (e : Entry) (k : ℕ) (after : ℕ → Result (List Arrow)) → isDone (atEntry e k after) ≡ doneAfter (leftAfter e k) after
 unfolding leftAfter atEntry isDone
-entry-stops Blank k after q = let z : _≡_ {A = ℕ} 0 1 = cc in absurd (omega arith)
-entry-stops Faulty k after q = refl
-entry-stops (Edge s t) zero after q = refl
-entry-stops (Edge s t) (suc k) after q = let z : _≡_ {A = ℕ} 0 1 = cc in absurd (omega arith)
+entry-done Blank k after = refl
+entry-done Faulty k after = refl
+entry-done (Edge s t) zero after = refl
+entry-done (Edge s t) (suc k) after = edge-done (record { source = s; target = t }) (after k)
 
 end-done : (t : Bool) → isDone {A = List Arrow} (cond t (done []) (refused 15)) ≡ t
 unfolding isDone
 end-done true = refl
 end-done false = refl
 
-module _ (text : List ℕ) (at n count place left : ℕ) (so-far : isDone (entries n count (lines (drop at text))) ≡ isDone (entries n left (lines (drop place text)))) where
-  pub right-end : lines (drop place text) ≡ [] → isDone (entries n count (lines (drop at text))) ≡ eqb left 0
+module _ (text : List ℕ) (at n count place left : ℕ) (so-far : isDone (entries n count (lines (drop at text))) ≡ isDone (entries n left (lines (drop place text))))
+    (p : Piece) (seen : p ≡ pieceAt LF text place) where
+  pub right-end : p ≡ None → eqb left 0 ≡ isDone (entries n count (lines (drop at text)))
   unfolding entries
-  right-end e = so-far ∙ rw e (end-done (eqb left 0))
+  right-end q = sym (so-far ∙ rw (piece-none LF text place p seen q) (end-done (eqb left 0)))
 
-  module _ (a e next : ℕ) (k : Known LF text place a e next) (w : List ℕ) (is : w ≡ take (e - a) (drop a text)) (x : Entry) (read : x ≡ entryOf n (content w)) (y : Left) (told : y ≡ leftAfter x left) where
-    line : lines (drop place text) ≡ w ∷ lines (drop next text)
-    line = piece-left LF text place a e next k w is
-
-    turn : entries n left (lines (drop place text)) ≡ atEntry x left (λ j. entries n j (lines (drop next text)))
+  module _ (a e next : ℕ) (is : p ≡ At a e next) (w : List ℕ) (cut : w ≡ take (e - a) (drop a text)) (x : Entry) (read : x ≡ entryOf n (content w)) (y : Left) (told : y ≡ leftAfter x left) where
+    turn : isDone (entries n count (lines (drop at text))) ≡ doneAfter y (λ j. entries n j (lines (drop next text)))
     unfolding entries
-    turn = rw (line, read)
+    turn = so-far ∙ rw (piece-left LF text place p seen a e next is w cut, ← read, told) (entry-done x left (λ j. entries n j (lines (drop next text))))
 
-    pub right-stop : y ≡ TooMany → isDone (entries n count (lines (drop at text))) ≡ false
-    right-stop q = so-far ∙ ap isDone turn ∙ entry-stops x left (λ j. entries n j (lines (drop next text))) (sym told ∙ q)
+    pub right-stop : y ≡ TooMany → false ≡ isDone (entries n count (lines (drop at text)))
+    right-stop q = sym (turn ∙ rw q)
 
     pub right-step : (less : ℕ) → y ≡ Is less → isDone (entries n count (lines (drop at text))) ≡ isDone (entries n less (lines (drop next text)))
-    right-step less q = so-far ∙ ap isDone turn ∙ entry-goes x left less (λ j. entries n j (lines (drop next text))) (sym told ∙ q)
-
--- entries that are not right are refused by 15
-edge-refused : (a : Arrow) (r : Result (List Arrow)) → (isDone r ≡ false → r ≡ refused 15) → isDone (withEdge a r) ≡ false → withEdge a r ≡ refused 15
-unfolding isDone withEdge
-edge-refused a (refused k) h q = h q
-edge-refused a (done es) h q = let z : _≡_ {A = ℕ} 0 1 = cc in absurd (omega arith)
-
-entry-refused : (e : Entry) (k : ℕ) (after : ℕ → Result (List Arrow)) → ((j : ℕ) → isDone (after j) ≡ false → after j ≡ refused 15) → isDone (atEntry e k after) ≡ false → atEntry e k after ≡ refused 15
-unfolding atEntry
-entry-refused Blank k after h q = h k q
-entry-refused Faulty k after h q = refl
-entry-refused (Edge s t) zero after h q = refl
-entry-refused (Edge s t) (suc k) after h q = edge-refused (record { source = s; target = t }) (after k) (h k) q
-
-end-refused : (t : Bool) → isDone {A = List Arrow} (cond t (done []) (refused 15)) ≡ false → _≡_ {A = Result (List Arrow)} (cond t (done []) (refused 15)) (refused 15)
-unfolding isDone
-end-refused true q = let z : _≡_ {A = ℕ} 0 1 = cc in absurd (omega arith)
-end-refused false q = refl
-
-pub entries-refused : (n k : ℕ) (ls : List (List ℕ)) → isDone (entries n k ls) ≡ false → entries n k ls ≡ refused 15
-unfolding entries
-entries-refused n k [] q = end-refused (eqb k 0) q
-entries-refused n k (w ∷ ls) q = entry-refused (entryOf n (content w)) k (λ j. entries n j ls) (λ j. entries-refused n j ls) q
+    right-step less q = turn ∙ rw q
 
 pub done-some : {A : Type 0} (r : Result A) → isDone r ≡ true → (a : A) × (r ≡ done a)
 unfolding isDone
@@ -157,132 +147,96 @@ unfolding withEdge
 edge-rest a (refused k) es q = let z : _≡_ {A = ℕ} 0 1 = cc in absurd (omega arith)
 edge-rest a (done xs) es q = record { others = xs; reads = refl; is = cc }
 
--- there are as many edges as were to come
-entry-count : (e : Entry) (k : ℕ) (after : ℕ → Result (List Arrow)) (es : List Arrow) → ((j : ℕ) (xs : List Arrow) → after j ≡ done xs → length xs ≡ j) → atEntry e k after ≡ done es → length es ≡ k
-unfolding atEntry
-entry-count Blank k after es h q = h k es q
-entry-count Faulty k after es h q = let z : _≡_ {A = ℕ} 0 1 = cc in absurd (omega arith)
-entry-count (Edge s t) zero after es h q = let z : _≡_ {A = ℕ} 0 1 = cc in absurd (omega arith)
-entry-count (Edge s t) (suc k) after es h q = let r = edge-rest (record { source = s; target = t }) (after k) es q in ap length (r .is) ∙ ap suc (h k (r .others) (r .reads))
+-- a column is written up to place k, and what is left gives the whole
+pub record Half (f : Arrow → ℕ) (es left : List Arrow) (s₀ : List ℕ) (k : ℕ) (s : List ℕ) : Type 0 where
+  pub long : length s ≡ length s₀
+  pub is : column f es s₀ ≡ take k s ++ column f left (drop k s)
 
-end-count : (k : ℕ) (t : Bool) (es : List Arrow) → eqb k 0 ≡ t → cond t (done []) (refused 15) ≡ done es → length es ≡ k
-end-count k true es p q = let h : [] ≡ es = cc in rw (← h) (sym (eqb-true k 0 p))
-end-count k false es p q = let z : _≡_ {A = ℕ} 0 1 = cc in absurd (omega arith)
+module _ (f : Arrow → ℕ) (es : List Arrow) (s₀ : List ℕ) where
+  half-none : Half f es es s₀ 0 s₀
+  half-none = record { long = refl; is = refl }
 
-pub entries-count : (n k : ℕ) (ls : List (List ℕ)) (es : List Arrow) → entries n k ls ≡ done es → length es ≡ k
-unfolding entries
-entries-count n k [] es q = end-count k (eqb k 0) es refl q
-entries-count n k (w ∷ ls) es q = entry-count (entryOf n (content w)) k (λ j. entries n j ls) es (λ j xs. entries-count n j ls xs) q
+  module _ (k : ℕ) (s : List ℕ) where
+    half-step : (x : Arrow) (left : List Arrow) → k < length s → Half f es (x ∷ left) s₀ k s → Half f es left s₀ (k + 1) (set s k (f x))
+    half-step x left h a =
+        let i : k < suc k = omega arith in
+        let e : suc k + length left ≡ k + suc (length left) = omega arith in
+        record {
+          long = length-set s k (f x) ∙ a .long;
+          is = a .is ∙ rw (add-one k, take-suc-set s k (f x) h, drop-set-lt (suc k) s k (f x) i, append-assoc, drop-drop (length left) (suc k) s, drop-drop (suc (length left)) k s, e);
+        }
 
--- one more edge in a column
-column-more : (f : Arrow → ℕ) (gone : List Arrow) (x : Arrow) (xs : List ℕ) (k : ℕ) → length gone ≡ k → k < length xs → set (column f gone xs) k (f x) ≡ column f (gone ++ (x ∷ [])) xs
-column-more f gone x xs k e h =
-    let l : length gone < length xs = omega arith in
-    let m : length (gone ++ (x ∷ [])) ≡ suc (length gone) = omega (arith, length-append gone (x ∷ [])) in
-    rw (drop-cons xs (length gone) 0 l, set-at (map f gone) (getD xs (length gone) 0) (drop (suc (length gone)) xs) (f x) k (length-map gone f ∙ e), m, map-app f gone (x ∷ []), append-assoc)
+    half-end : Half f es [] s₀ k s → s ≡ column f es s₀
+    half-end a = sym (a .is ∙ take-append-drop k s)
 
 -- the table is written up to place k
 pub record Filling (text : List ℕ) (at n count : ℕ) (s₀ t₀ : List ℕ) (place k : ℕ) (s t : List ℕ) : Type 0 where
-  pub gone : List Arrow
+  pub ask : FillAsk text at n count s₀ t₀
   pub left : List Arrow
-  pub all : entries n count (lines (drop at text)) ≡ done (gone ++ left)
   pub more : entries n (count - k) (lines (drop place text)) ≡ done left
-  pub so-far : length gone ≡ k
   pub low : k ≤ count
-  pub room-s : count ≤ length s₀
-  pub room-t : count ≤ length t₀
-  pub sources : s ≡ column (λ a. a .source) gone s₀
-  pub targets : t ≡ column (λ a. a .target) gone t₀
-
-column-length : (f : Arrow → ℕ) (es : List Arrow) (xs : List ℕ) → length es ≤ length xs → length (column f es xs) ≡ length xs
-column-length f es xs h = omega (arith, length-append (map f es) (drop (length es) xs), length-map es f, length-drop (length es) xs)
+  pub sources : Half (λ a. a .source) (ask .edges) left s₀ k s
+  pub targets : Half (λ a. a .target) (ask .edges) left t₀ k t
 
 module _ (text : List ℕ) (at n count : ℕ) (s₀ t₀ : List ℕ) where
   pub filling-none : FillAsk text at n count s₀ t₀ → Filling text at n count s₀ t₀ at 0 s₀ t₀
   filling-none a =
       let z : count - 0 ≡ count = omega arith in
-      record {
-        gone = [];
-        left = a .edges;
-        all = a .reads;
-        more = rw z (a .reads);
-        so-far = refl;
-        low = omega arith;
-        room-s = a .room-s;
-        room-t = a .room-t;
-        sources = refl;
-        targets = refl;
-      }
+      let s = half-none (λ a. a .source) (a .edges) s₀ in
+      let t = half-none (λ a. a .target) (a .edges) t₀ in
+      record { ask = a; left = a .edges; more = rw z (a .reads); low = omega arith; sources = s; targets = t }
 
   module _ (place k : ℕ) (s t : List ℕ) (f : Filling text at n count s₀ t₀ place k s t) where
-    pub filling-s : length s ≡ length s₀
-    filling-s = ap length (f .sources) ∙ column-length (λ a. a .source) (f .gone) s₀ (omega (arith, f .so-far, f .low, f .room-s))
-
-    pub filling-t : length t ≡ length t₀
-    filling-t = ap length (f .targets) ∙ column-length (λ a. a .target) (f .gone) t₀ (omega (arith, f .so-far, f .low, f .room-t))
-
     pub filling-end : count ≤ k → Filled text at n count s₀ t₀ s t
     unfolding edgesOf
     filling-end h =
         let c = entries-count n (count - k) (lines (drop place text)) (f .left) (f .more) in
-        let none = empty (f .left) (omega arith) in
-        let e : edgesOf (entries n count (lines (drop at text))) ≡ f .gone = ap edgesOf (f .all) ∙ ap (λ (x : List Arrow). f .gone ++ x) none ∙ append-nil (f .gone) in
-        record { sources = rw e (f .sources); targets = rw e (f .targets) }
-      where
-        empty : (xs : List Arrow) → length xs ≡ 0 → xs ≡ []
-        empty [] p = refl
-        empty (x ∷ xs) p = absurd (omega arith)
+        let none : f .left ≡ [] = drop-of-length-le (f .left) {i = 0} (omega arith) in
+        record {
+          sources = rw (f .ask .reads) (half-end (λ a. a .source) (f .ask .edges) s₀ k s (rw none at (f .sources)));
+          targets = rw (f .ask .reads) (half-end (λ a. a .target) (f .ask .edges) t₀ k t (rw none at (f .targets)));
+        }
 
-    -- a line cannot be missing
-    pub filling-gap : k < count → lines (drop place text) ≡ [] → ⊥
-    unfolding entries
-    filling-gap h e =
-        let z : (count - k ≡ 0 → ⊥) = λ q. omega arith in
-        let q : refused 15 ≡ done (f .left) = sym (rw (e, ne-eqb (count - k) 0 z)) ∙ f .more in
-        let o : _≡_ {A = ℕ} 0 1 = cc in
-        omega arith
-
-    module _ (w : List ℕ) (next : ℕ) (h : k < count) (line : lines (drop place text) ≡ w ∷ lines (drop next text)) where
-      goes : (x : Entry) (j : ℕ) → x ≡ entryOf n (content w) → count - k ≡ suc j → atEntry x (suc j) (λ i. entries n i (lines (drop next text))) ≡ done (f .left)
+    module _ (h : k < count) (piece : Piece) (seen : piece ≡ pieceAt LF text place) where
+      -- a line cannot be missing
+      pub filling-gap : piece ≡ None → Filled text at n count s₀ t₀ s t
       unfolding entries
-      goes x j e q = sym (rw (line, e, q)) ∙ f .more
-
-      pub filling-step : (x : Entry) → x ≡ entryOf n (content w) → (r : ℕ) (s' t' : List ℕ) → Put x k s t r s' t' → Filling text at n count s₀ t₀ next r s' t'
-      unfolding atEntry placeAfter sourcesAfter targetsAfter
-      filling-step Blank e r s' t' p =
-          let q : count - k ≡ suc (count - suc k) = omega arith in
-          let i : suc (count - suc k) ≡ count - r = omega (arith, p .place) in
-          record {
-            gone = f .gone;
-            left = f .left;
-            all = f .all;
-            more = rw (← i) (goes Blank (count - suc k) e q);
-            so-far = f .so-far ∙ sym (p .place);
-            low = omega (arith, p .place);
-            room-s = f .room-s;
-            room-t = f .room-t;
-            sources = p .sources ∙ f .sources;
-            targets = p .targets ∙ f .targets;
-          }
-      filling-step Faulty e r s' t' p =
-          let q : count - k ≡ suc (count - suc k) = omega arith in
-          let b = goes Faulty (count - suc k) e q in
-          let z : _≡_ {A = ℕ} 0 1 = cc in
+      filling-gap e =
+          let z : (count - k ≡ 0 → ⊥) = λ q. omega arith in
+          let q : refused 15 ≡ done (f .left) = sym (rw (piece-none LF text place piece seen e, ne-eqb (count - k) 0 z)) ∙ f .more in
+          let o : _≡_ {A = ℕ} 0 1 = cc in
           absurd (omega arith)
-      filling-step (Edge a b) e r s' t' p =
-          let q : count - k ≡ suc (count - suc k) = omega arith in
-          let x : Arrow = record { source = a; target = b } in
-          let o = edge-rest x (entries n (count - suc k) (lines (drop next text))) (f .left) (goes (Edge a b) (count - suc k) e q) in
-          let i : count - suc k ≡ count - r = omega (arith, p .place) in
-          record {
-            gone = f .gone ++ (x ∷ []);
-            left = o .others;
-            all = f .all ∙ ap (λ (u : List Arrow). done (f .gone ++ u)) (o .is) ∙ ap done (sym (append-assoc (f .gone) (x ∷ []) (o .others)));
-            more = rw (← i) (o .reads);
-            so-far = omega (arith, length-append (f .gone) (x ∷ []), f .so-far, p .place);
-            low = omega (arith, p .place);
-            room-s = f .room-s;
-            room-t = f .room-t;
-            sources = p .sources ∙ ap (λ (u : List ℕ). set u k a) (f .sources) ∙ column-more (λ c. c .source) (f .gone) x s₀ k (f .so-far) (omega (arith, f .room-s));
-            targets = p .targets ∙ ap (λ (u : List ℕ). set u k b) (f .targets) ∙ column-more (λ c. c .target) (f .gone) x t₀ k (f .so-far) (omega (arith, f .room-t));
-          }
+
+      module _ (a e next : ℕ) (is : piece ≡ At a e next) (w : List ℕ) (cut : w ≡ take (e - a) (drop a text)) where
+        goes : (x : Entry) → x ≡ entryOf n (content w) → atEntry x (suc (count - suc k)) (λ i. entries n i (lines (drop next text))) ≡ done (f .left)
+        unfolding entries
+        goes x q = let j : count - k ≡ suc (count - suc k) = omega arith in sym (rw (piece-left LF text place piece seen a e next is w cut, q, j)) ∙ f .more
+
+        pub filling-step : (x : Entry) → x ≡ entryOf n (content w) → (r : ℕ) (s' t' : List ℕ) → Put x k s t r s' t' → Filling text at n count s₀ t₀ next r s' t'
+        unfolding atEntry placeAfter sourcesAfter targetsAfter
+        filling-step Blank q r s' t' p =
+            let i : suc (count - suc k) ≡ count - r = omega (arith, p .place) in
+            record {
+              ask = f .ask;
+              left = f .left;
+              more = rw (← i) (goes Blank q);
+              low = omega (arith, p .place);
+              sources = rw (p .place, p .sources) (f .sources);
+              targets = rw (p .place, p .targets) (f .targets);
+            }
+        filling-step Faulty q r s' t' p =
+            let b = goes Faulty q in
+            let z : _≡_ {A = ℕ} 0 1 = cc in
+            absurd (omega arith)
+        filling-step (Edge u v) q r s' t' p =
+            let x : Arrow = record { source = u; target = v } in
+            let o = edge-rest x (entries n (count - suc k) (lines (drop next text))) (f .left) (goes (Edge u v) q) in
+            let i : count - suc k ≡ count - r = omega (arith, p .place) in
+            record {
+              ask = f .ask;
+              left = o .others;
+              more = rw (← i) (o .reads);
+              low = omega (arith, p .place);
+              sources = rw (p .place, p .sources) (half-step (λ c. c .source) (f .ask .edges) s₀ k s x (o .others) (omega (arith, f .ask .room-s, f .sources .long)) (rw (o .is) at (f .sources)));
+              targets = rw (p .place, p .targets) (half-step (λ c. c .target) (f .ask .edges) t₀ k t x (o .others) (omega (arith, f .ask .room-t, f .targets .long)) (rw (o .is) at (f .targets)));
+            }

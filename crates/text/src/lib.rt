@@ -3,7 +3,7 @@ ghost use mathlib.Core.Path.{_≡_};
 ghost use Prim.Native.Nat.{min};
 ghost use Rattle.graph.specs.Limits.{mostVertices, mostEdges};
 ghost use Rattle.text.specs.Steps.{limits, JudgeSaid};
-ghost use Rattle.text.specs.Promise.{Call, Promise};
+ghost use Rattle.text.specs.Promise.{Promise};
 
 mod entries;
 mod header;

@@ -1,5 +1,16 @@
 // Reads a text from standard input and writes its label file, or `refused N`.
+ghost use Rattle.io.specs.Counts.{Counts};
 use labels::Answer;
+
+// The count of bytes at the front of the buffer; 0 if it has fewer.
+fn fitting(bytes: usize, buf: &[u8]) -> usize
+    ensures { λ r. ⌜ Counts r (now (buf .entry)) ⌝ }
+{
+    if buf.len() < bytes {
+        return 0;
+    }
+    io::count(bytes as isize, buf)
+}
 
 fn refused(k: u32) {
     io::write_all(1, b"refused ");
@@ -19,7 +30,7 @@ fn main() {
     match entry::label_text(&text[..n], &mut out) {
         Answer::Refused(k) => refused(k),
         Answer::Done { bytes } => {
-            let k = io::count(bytes as isize, &out);
+            let k = fitting(bytes, &out);
             io::write_all(1, &out[..k]);
         }
     }

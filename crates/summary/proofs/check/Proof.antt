@@ -14,9 +14,6 @@ returns-2 : tie.Need-returns-2
 unfolding summaryRefusal given _or_
 returns-2 c = rw (le-ltb _ _ (c .before .if1 .left), ne-eqb _ _ (c .if2 .taken))
 
-outside-requires : tie.Need-outside-requires
-outside-requires c κs = search needs
-
 returns-3 : tie.Need-returns-3
 unfolding summaryRefusal given _or_
 returns-3 c = rw (le-ltb _ _ (c .before .before .before .if1 .left), eq-eqb _ _ (c .before .before .if2 .left), sym (c .before .outside .ensures) ∙ c .if3 .taken)
@@ -26,4 +23,4 @@ unfolding summaryRefusal given _or_
 returns-4 c = rw (le-ltb _ _ (c .before .before .before .if1 .left), eq-eqb _ _ (c .before .before .if2 .left), sym (c .before .outside .ensures) ∙ c .if3 .left)
 
 pub check-spec : {M : Type 1} → statement M
-check-spec = tie.close (tie.spec returns returns-2 outside-requires returns-3 returns-4)
+check-spec = tie.close (tie.spec returns returns-2 (λ c κs. search needs) returns-3 returns-4)

@@ -6,12 +6,6 @@ use Rattle.lines.proofs.pieces.next_piece.Tie as tie
 returns : tie.Need-returns
 returns c = simp (le-ltb _ _ (c .if1 .taken))
 
-end-of-requires : tie.Need-end-of-requires
-end-of-requires c κs = search needs
-
-add-t8 : tie.Need-add-t8
-add-t8 c = search needs
-
 returns-2 : tie.Need-returns-2
 returns-2 c = simp (lt-ltb _ _ (c .before .before .if1 .left), ← (c .before .end-of .ensures .exact), lt-ltb _ _ (c .if2 .taken))
 
@@ -19,4 +13,4 @@ returns-3 : tie.Need-returns-3
 returns-3 c = simp (lt-ltb _ _ (c .before .before .if1 .left), ← (c .before .end-of .ensures .exact), le-ltb _ _ (c .if2 .left))
 
 pub next-piece-spec : {M : Type 1} → statement M
-next-piece-spec = tie.close (tie.spec returns end-of-requires add-t8 returns-2 returns-3)
+next-piece-spec = tie.close (tie.spec returns (λ c κs. search needs) (λ c. search needs) returns-2 returns-3)

@@ -1,12 +1,9 @@
-use mathlib.Core.Path.{_≡_, refl, sym, _∙_}
-use Prim.Native.Nat.{_-_}
-use native.Mathlib.Omega.{arith}
-use lib.ListN.{length, drop}
 use borrow.Author.Needs.{needs}
-use borrow.Author.Tests.{not-true, not-false}
-use Rattle.graph.specs.Refusal.{given}
-use Rattle.lines.specs.Pieces.{LF, lines}
-use Rattle.lines.proofs.Split.{piece-known, piece-none}
+use mathlib.Core.Path.{_≡_, refl}
+use Prim.Native.Nat.{_-_}
+use lib.ListN.{length, drop}
+use Rattle.lines.specs.Pieces.{lines}
+use Rattle.lines.proofs.Split.{piece-order, piece-ends, piece-less}
 use Rattle.text.specs.Market.{passOver}
 use Rattle.text.proofs.Head.{pass-step, pass-stop, pass-end}
 use Rattle.text.proofs.header.size_line.Statement.{statement}
@@ -21,48 +18,17 @@ abbrev μ-loop : tie.MeasureT-loop
 loop-holds : tie.Need-loop-holds Inv-loop μ-loop
 loop-holds c = refl
 
-next-line-requires : tie.Need-next-line-requires Inv-loop μ-loop
-next-line-requires c κs = search needs
-
-enum-known-start : tie.Need-enum-known-start Inv-loop μ-loop
-enum-known-start c = search needs
-
-enum-told : tie.Need-enum-told Inv-loop μ-loop
-enum-told c = search needs
-
 returns : tie.Need-returns Inv-loop μ-loop
-returns c = pass-end (c .before .before .before .before .before .args .text .now) (c .before .before .before .before .before .args .at) (c .before .before .before .loop .place) (c .before .before .before .loop .inv) (piece-none LF (c .before .before .before .before .before .args .text .now) (c .before .before .before .loop .place) (sym (c .before .before .next-line .ensures) ∙ c .enum-told .given .1))
+returns c = search pass-end
 
 bytes-requires : tie.Need-bytes-requires Inv-loop μ-loop
-bytes-requires c κs = let text = c .before .before .before .before .before .before .args .text .now in
-    let l = c .before .before .before .before .loop in
-    let a = c .before .start .given in
-    let k = piece-known LF text (l .place) (a .0 .0) (a .0 .1 .0) (a .0 .1 .1 .0) (sym (c .before .before .before .next-line .ensures) ∙ a .1) in
-    (k .order, k .ends)
-
-passed-over-requires : tie.Need-passed-over-requires Inv-loop μ-loop
-passed-over-requires c κs = search needs
+bytes-requires c κs = search (piece-order, piece-ends)
 
 returns-2 : tie.Need-returns-2 Inv-loop μ-loop
-returns-2 c = let text = c .before .before .before .before .before .before .before .before .before .args .text .now in
-    let l = c .before .before .before .before .before .before .before .loop in
-    let a = c .before .before .before .before .start .given in
-    let k = piece-known LF text (l .place) (a .0 .0) (a .0 .1 .0) (a .0 .1 .1 .0) (sym (c .before .before .before .before .before .before .next-line .ensures) ∙ a .1) in
-    pass-stop text (c .before .before .before .before .before .before .before .before .before .args .at) (l .place) (a .0 .0) (a .0 .1 .0) (a .0 .1 .1 .0) k (l .inv) (c .before .before .bytes .result .now) (c .before .before .bytes .ensures) (sym (c .before .passed-over .ensures) ∙ not-true _ (c .if1 .taken))
-
-loop-less : tie.Need-loop-less Inv-loop μ-loop
-loop-less c = let text = c .before .before .before .before .before .before .before .before .before .args .text .now in
-    let l = c .before .before .before .before .before .before .before .loop in
-    let a = c .before .before .before .before .start .given in
-    let k = piece-known LF text (l .place) (a .0 .0) (a .0 .1 .0) (a .0 .1 .1 .0) (sym (c .before .before .before .before .before .before .next-line .ensures) ∙ a .1) in
-    omega (arith, k .onward, k .within)
+returns-2 c = search pass-stop
 
 loop-again : tie.Need-loop-again Inv-loop μ-loop
-loop-again c = let text = c .before .before .before .before .before .before .before .before .before .args .text .now in
-    let l = c .before .before .before .before .before .before .before .loop in
-    let a = c .before .before .before .before .start .given in
-    let k = piece-known LF text (l .place) (a .0 .0) (a .0 .1 .0) (a .0 .1 .1 .0) (sym (c .before .before .before .before .before .before .next-line .ensures) ∙ a .1) in
-    pass-step text (c .before .before .before .before .before .before .before .before .before .args .at) (l .place) (a .0 .0) (a .0 .1 .0) (a .0 .1 .1 .0) k (l .inv) (c .before .before .bytes .result .now) (c .before .before .bytes .ensures) (sym (c .before .passed-over .ensures) ∙ not-false _ (c .if1 .left))
+loop-again c = search pass-step
 
 pub size-line-spec : {M : Type 1} → statement M
 size-line-spec =
@@ -71,12 +37,12 @@ size-line-spec =
     Inv-loop
     μ-loop
     loop-holds
-    next-line-requires
-    enum-known-start
-    enum-told
+    (λ c κs. search needs)
+    (λ c. search needs)
+    (λ c. search needs)
     returns
     bytes-requires
-    passed-over-requires
+    (λ c κs. search needs)
     returns-2
-    loop-less
+    (λ c. search piece-less)
     loop-again)
