@@ -1,23 +1,17 @@
 use mathlib.Core.Path.{sym, _∙_}
-use Rattle.checker.specs.Promise.{Call, call}
 use Rattle.checker.proofs.Laws.{call-ready, refused-promise, judged-promise}
 use borrow.Author.Needs.{needs}
 use Rattle.checker.proofs.check.Statement.{statement}
 use Rattle.checker.proofs.check.Tie as tie
 
-abbrev asked : tie.After-refusal → Call
-asked c =
-    let s = c .before .before .before .before .before .before .before .before .before in
-    call (s .args .n) (s .args .sources .now) (s .args .targets .now) (s .args .label .now) (s .args .rank .now) (s .args .in-edge .now) (s .args .in-distance .now) (s .args .out-edge .now) (s .args .out-distance .now)
-
 returns : tie.Need-returns
-returns c = refused-promise (asked (c .before)) _ (c .before .refusal .ensures) (c .if1 .taken)
+returns c = refused-promise _ _ (c .before .refusal .ensures) (c .if1 .taken)
 
 judge-requires : tie.Need-judge-requires
-judge-requires c κs = call-ready (asked (c .before)) (sym (c .before .refusal .ensures) ∙ c .if1 .left)
+judge-requires c κs = call-ready _ (sym (c .before .refusal .ensures) ∙ c .if1 .left)
 
 returns-2 : tie.Need-returns-2
-returns-2 c = let at-refusal = c .before .before in judged-promise (asked at-refusal) _ (sym (at-refusal .refusal .ensures) ∙ c .before .if1 .left) (c .judge .ensures)
+returns-2 c = let at-refusal = c .before .before in judged-promise _ _ (sym (at-refusal .refusal .ensures) ∙ c .before .if1 .left) (c .judge .ensures)
 
 pub check-spec : {M : Type 1} → statement M
 check-spec = tie.close (tie.spec (λ c κs. search needs) returns judge-requires returns-2)

@@ -17,9 +17,9 @@ Inv-loop n w₀ ix b a a2 c c2 k0 h₀ k₀ edges₀ w h k edges = (h ≤ k)
 abbrev μ-loop : tie.MeasureT-loop
 μ-loop n w₀ ix b a a2 c c2 k0 h₀ k₀ edges₀ w h k edges = n - h
 
--- the beginning of a turn, seen from its end
-abbrev turn : tie.After-struct-known Inv-loop μ-loop → tie.In-loop Inv-loop μ-loop
-turn c = c .before .before .before .before .before
+-- where a turn's level is painted, seen from the turn's end
+abbrev levelled : tie.After-struct-known Inv-loop μ-loop → tie.After-level Inv-loop μ-loop
+levelled c = c .before .before .before
 
 loop-holds : tie.Need-loop-holds Inv-loop μ-loop
 loop-holds c = let (g, a) = c .before .pre in (omega arith, (g, (a, spread-none a)), λ g a. spread-none a)
@@ -29,16 +29,16 @@ level-requires c κs = let (l, (g, (a, z)), f) = c .before .before .loop .inv in
 
 add-edges : tie.Need-add-edges Inv-loop μ-loop
 add-edges c =
-    let (l, (g, (a, z)), f) = turn c .before .loop .inv in
-    omega (arith, spread-few a z, spread-room a (spread-step a z (c .before .before .before .level .ensures g (spread-ask a z l))))
+    let (l, (g, (a, z)), f) = levelled c .before .before .before .loop .inv in
+    omega (arith, spread-few a z, spread-room a (spread-step a z (levelled c .level .ensures g (spread-ask a z l))))
 
 loop-less : tie.Need-loop-less Inv-loop μ-loop
-loop-less c = let (l, (g, (a, z)), f) = turn c .before .loop .inv in omega (arith, spread-few a z)
+loop-less c = let (l, (g, (a, z)), f) = levelled c .before .before .before .loop .inv in omega (arith, spread-few a z)
 
 loop-again : tie.Need-loop-again Inv-loop μ-loop
 loop-again c =
-    let (l, (g, (a, z)), f) = turn c .before .loop .inv in
-    let y = c .before .before .before .level .ensures in
+    let (l, (g, (a, z)), f) = levelled c .before .before .before .loop .inv in
+    let y = levelled c .level .ensures in
     let r = y g (spread-ask a z l) in
     (r .grew .more, (g, (a, spread-step a z r)), λ g a. spread-step a (f g a) (y g (spread-ask a (f g a) l)))
 

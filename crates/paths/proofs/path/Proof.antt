@@ -8,15 +8,19 @@ use Rattle.paths.proofs.path.Statement.{statement}
 use Rattle.paths.proofs.path.Tie as tie
 
 -- what was given, and that it is not refused before the search
-abbrev call : tie.Start → Call
-call s = record { n = s .args .n; sources = s .args .sources .now; targets = s .args .targets .now; u = s .args .u; v = s .args .v; room = s .args .room .now; numbers = s .args .numbers .now; words = s .args .words .now }
+abbrev call : tie.After-slice-known2 → Call
+call c = let s = c .before .before .before .before in record { n = s .args .n; sources = s .args .sources .now; targets = s .args .targets .now; u = s .args .u; v = s .args .v; room = s .args .room .now; numbers = s .args .numbers .now; words = s .args .words .now }
 
 abbrev asked : tie.After-refusal → Call
-asked c = call (c .before .before .before .before .before .before)
+asked c = call (c .before .before)
 
--- the search, seen from the answer
-abbrev searched : tie.After-settle → tie.After-find
-searched c = c .before .before .before .before .before
+-- the search, seen from where the answer may be settled
+abbrev searched : tie.After-settle-arg2 → tie.After-find
+searched c = c .before .before .before .before
+
+-- the answer, seen from where the memory is cleared
+abbrev settled : tie.After-clear-arg2 → tie.After-settle
+settled c = c .before .before .before .before
 
 pass : (c : tie.Else1) → firstRefusal (asked (c .before)) ≡ 0
 pass c = sym (c .before .refusal .ensures) ∙ c .if1 .left
@@ -32,16 +36,16 @@ find-requires : tie.Need-find-requires
 find-requires c κs = find-ask (asked (c .before .before)) (pass (c .before))
 
 settle-requires : tie.Need-settle-requires
-settle-requires c κs = let f = c .before .before .before .before in let a = asked (f .before .before .before) in (arrows (collection a), a .u, ask f)
+settle-requires c κs = let f = searched c in let a = asked (f .before .before .before) in (arrows (collection a), a .u, ask f)
 
 clear-requires : tie.Need-clear-requires
-clear-requires c κs = let f = searched (c .before .before .before .before) in clear-ask (asked (f .before .before .before)) (pass (f .before .before)) _ (f .find .ensures .long)
+clear-requires c κs = let f = searched (settled c .before) in clear-ask (asked (f .before .before .before)) (pass (f .before .before)) _ (f .find .ensures .long)
 
 returns-2 : tie.Need-returns-2
 returns-2 c =
     let at-clear = c .before .before .before .before in
-    let at-settle = at-clear .before .before .before .before .before in
-    let at-find = searched at-settle in
+    let at-settle = settled (at-clear .before) in
+    let at-find = searched (at-settle .before) in
     settled-promise _ (pass (at-find .before .before)) _ _ _ _ (at-find .find .ensures) (at-clear .clear .ensures) (at-settle .settle .result)
     (let a = asked (at-find .before .before .before) in at-settle .settle .ensures (arrows (collection a)) (a .u) (ask at-find))
 

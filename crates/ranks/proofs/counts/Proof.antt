@@ -20,9 +20,9 @@ Inv-loop n sources targets label w₀ b e₀ w e =
 abbrev μ-loop : tie.MeasureT-loop
 μ-loop n sources targets label w₀ b e₀ w e = length sources - e
 
--- the beginning of a turn, seen from its end
-abbrev turn : tie.After-slice-known3 Inv-loop μ-loop → tie.In-loop Inv-loop μ-loop
-turn c = c .before .before .before .before .before
+-- the beginning of a turn, seen from where the lead is known
+abbrev turn : tie.After-lead Inv-loop μ-loop → tie.In-loop Inv-loop μ-loop
+turn c = c .before .before .before .before
 
 loop-holds : tie.Need-loop-holds Inv-loop μ-loop
 loop-holds c = (omega arith, search ground-kept, search tally-none)
@@ -37,7 +37,7 @@ lead-requires : tie.Need-lead-requires Inv-loop μ-loop
 lead-requires c κs = search tally-ask
 
 add-w-3 : tie.Need-add-w-3 Inv-loop μ-loop
-add-w-3 c = let l = turn c .before .loop .inv in tally-fits (l .1) (l .2) (c .before .lead .ensures) (turn c .loop-test .taken)
+add-w-3 c = let t = turn (c .before) in let l = t .before .loop .inv in tally-fits (l .1) (l .2) (c .before .lead .ensures) (t .loop-test .taken)
 
 loop-again : tie.Need-loop-again Inv-loop μ-loop
 loop-again c = (omega arith, search (ground-kept, length-set), search tally-step)

@@ -19,8 +19,8 @@ abbrev start : tie.At-loop Inv-loop μ-loop → tie.Start Inv-loop μ-loop
 start c = c .before .before .before .before
 
 -- the beginning of a turn, seen from its end
-abbrev turn : tie.After-slice-known3 Inv-loop μ-loop → tie.In-loop Inv-loop μ-loop
-turn c = c .before .before .before .before .before
+abbrev turn : tie.After-w Inv-loop μ-loop → tie.In-loop Inv-loop μ-loop
+turn c = c .before .before .before .before
 
 loop-holds : tie.Need-loop-holds Inv-loop μ-loop
 loop-holds c = let (g, a) = c .before .before .before .pre in (omega arith, queue-few a (take-none a), ranking-none _ _ _, λ g a. take-none a)
@@ -36,10 +36,11 @@ scan-requires c κs =
 
 loop-again : tie.Need-loop-again Inv-loop μ-loop
 loop-again c =
-    let (_, _, f, x) = turn c .before .loop .inv in
-    let (g, a) = start (turn c .before) .pre in
+    let t = turn (c .before) in
+    let (_, _, f, x) = t .before .loop .inv in
+    let (g, a) = start (t .before) .pre in
     let y = c .before .before .scan .ensures in
-    let m = turn c .loop-test .taken in
+    let m = t .loop-test .taken in
     let z = take-step a f (x g a) m (y g) in
     (omega (arith, z .2), queue-few a (z .1), z .0, λ g a. take-step a f (x g a) m (y g) .1)
 

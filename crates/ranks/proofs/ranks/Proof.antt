@@ -21,9 +21,12 @@ use Rattle.ranks.proofs.ranks.Tie as tie
 abbrev whole : tie.Start → Graph
 whole s = graph (s .args .n) (s .args .sources .now) (s .args .targets .now)
 
--- the stages, each seen from the next
+-- what is given, and the stages, each seen from the next
+abbrev given : tie.After-slice-known → tie.Start
+given c = c .before .before .before .before
+
 abbrev start : tie.After-renumber → tie.Start
-start c = c .before .before .before .before .before .before
+start c = given (c .before .before)
 
 abbrev renumbered : tie.After-fill → tie.After-renumber
 renumbered c = c .before .before .before .before
@@ -44,10 +47,10 @@ grounded : (c : tie.After-fill) → let s = start (renumbered c) in Ground (whol
 grounded c = ground-kept (start (renumbered c) .pre .ground) (c .fill .ensures .framed .long ∙ laid (renumbered c) .long)
 
 slice-relend-prefix-renumber : tie.Need-slice-relend-prefix-renumber
-slice-relend-prefix-renumber c = numbers-ask (c .before .before .before .before .pre) .room
+slice-relend-prefix-renumber c = numbers-ask (given c .pre) .room
 
 slice-aggregate-renumber : tie.Need-slice-aggregate-renumber
-slice-aggregate-renumber c = let s = c .before .before .before .before .before in sym (length-take-le _ _ (numbers-ask (s .pre) .room))
+slice-aggregate-renumber c = sym (length-take-le _ _ (numbers-ask (given (c .before) .pre) .room))
 
 renumber-requires : tie.Need-renumber-requires
 renumber-requires c κs = search renumber-ask

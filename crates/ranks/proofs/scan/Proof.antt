@@ -16,21 +16,25 @@ Inv-loop n targets label w₀ b u k0 k₀ j₀ t₀ w k j =
 abbrev μ-loop : tie.MeasureT-loop
 μ-loop n targets label w₀ b u k0 k₀ j₀ t₀ w k j = getD w₀ (u + 1) 0 - j
 
+-- what is given, seen from where the first place is read and from the loop
+abbrev given : tie.After-slice-known2 Inv-loop μ-loop → tie.Start Inv-loop μ-loop
+given c = c .before .before .before .before
+
 abbrev start : tie.At-loop Inv-loop μ-loop → tie.Start Inv-loop μ-loop
-start c = c .before .before .before .before .before .before
+start c = given (c .before .before)
 
 -- the beginning of a turn, seen from its end
-abbrev turn : tie.After-slice-known5 Inv-loop μ-loop → tie.In-loop Inv-loop μ-loop
-turn c = c .before .before .before .before .before
+abbrev turn : tie.After-w Inv-loop μ-loop → tie.In-loop Inv-loop μ-loop
+turn c = c .before .before .before .before
 
 cast-j : tie.Need-cast-j Inv-loop μ-loop
-cast-j c = omega (arith, c .slice-known2 .given (c .before .before .before .before .args .u))
+cast-j c = omega (arith, c .slice-known2 .given (given c .args .u))
 
 cast-t : tie.Need-cast-t Inv-loop μ-loop
-cast-t c = let r = c .before in omega (arith, c .slice-known3 .given (r .before .before .before .before .args .u + 1))
+cast-t c = omega (arith, c .slice-known3 .given (given (c .before) .args .u + 1))
 
 loop-holds : tie.Need-loop-holds Inv-loop μ-loop
-loop-holds c = let (g, a) = c .before .before .before .before .before .pre in (omega arith, a .order, refl, λ g a. scan-none a)
+loop-holds c = let (g, a) = given (c .before) .pre in (omega arith, a .order, refl, λ g a. scan-none a)
 
 cast-e : tie.Need-cast-e Inv-loop μ-loop
 cast-e c = let l = c .before .before in omega (arith, c .slice-known4 .given (start l .args .n + 1 + l .loop .j))
@@ -43,10 +47,11 @@ settle-requires c κs =
 
 loop-again : tie.Need-loop-again Inv-loop μ-loop
 loop-again c =
-    let (l, _, _, x) = turn c .before .loop .inv in
-    let (g, a) = start (turn c .before) .pre in
+    let t = turn (c .before) in
+    let (l, _, _, x) = t .before .loop .inv in
+    let (g, a) = start (t .before) .pre in
     let y = c .before .before .settle .ensures in
-    let m = turn c .loop-test .taken in
+    let m = t .loop-test .taken in
     (omega arith, omega arith, scan-step a (x g a) l m (y g) .onward .frame .long, λ g a. scan-step a (x g a) l m (y g))
 
 returns : tie.Need-returns Inv-loop μ-loop

@@ -8,11 +8,14 @@ use borrow.Author.Needs.{needs}
 use Rattle.reach.proofs.refusal.Statement.{statement}
 use Rattle.reach.proofs.refusal.Tie as tie
 
--- the beginning, seen from where the table has passed
-abbrev start : tie.Else1 → tie.Start
-start c = c .before .before .before .before .before .before .before .before .before
+-- where the table and the sets to search are known, and the beginning, seen from where the table is checked
+abbrev sets : tie.After-check → tie.After-shared-slice-known4
+sets c = c .before .before .before .before
 
-pass : (c : tie.Else1) → (let s = start c .args in tableRefusal (s .n) (s .sources .now) (s .targets .now) ≡ 0)
+abbrev start : tie.After-check → tie.Start
+start c = sets c .before .before .before .before
+
+pass : (c : tie.Else1) → (let s = start (c .before) .args in tableRefusal (s .n) (s .sources .now) (s .targets .now) ≡ 0)
 pass c = sym (c .before .check .ensures) ∙ c .if1 .left
 
 returns : tie.Need-returns

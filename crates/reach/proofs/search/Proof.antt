@@ -7,18 +7,24 @@ use borrow.Author.Needs.{needs}
 use Rattle.reach.proofs.search.Statement.{statement}
 use Rattle.reach.proofs.search.Tie as tie
 
--- the beginning; where the call is not refused; where the index stands; the search's end: each seen from a later place
+-- where all slices are known; where those only read are; the beginning; where the index stands; where the call is not refused; the search's end: each seen from a later place
+abbrev slices : tie.After-refusal → tie.After-slice-known3
+slices c = c .before .before .before .before
+
+abbrev shared : tie.After-refusal → tie.After-shared-slice-known4
+shared c = slices c .before .before .before
+
 abbrev start : tie.Else1 → tie.Start
-start c = c .before .before .before .before .before .before .before .before .before .before .before .before
+start c = shared (c .before) .before .before .before .before
+
+abbrev indexed : tie.After-run-arg2 → tie.After-neighbours
+indexed c = c .before .before .before .before
 
 abbrev passed : tie.After-run → tie.Else1
-passed c = c .before .before .before .before .before .before .before
+passed c = indexed (c .before) .before .before
 
-abbrev indexed : tie.After-run → tie.After-neighbours
-indexed c = c .before .before .before .before .before
-
-abbrev end : tie.After-size-arg → tie.After-run
-end c = c .before .before .before .before .before
+abbrev end : tie.After-slice-known6 → tie.After-run
+end c = c .before .before .before .before
 
 -- what was given, and that it is not refused
 abbrev asked : (c : tie.Else1) → Call
@@ -30,32 +36,29 @@ pass : (c : tie.Else1) → searchRefusal (asked c) ≡ 0
 pass c = sym (c .before .refusal .ensures) ∙ c .if1 .left
 
 -- what the search found
-ran : (c : tie.After-run) → (let a = asked (passed c) in let (w, (r, _)) = c .run .last .1 .1 .1 .1 in Found (tableOf a (start (passed c) .args .backward)) (a .starts) (a .permitted) (indexed c .neighbours .last .1 .1 .1 .1 .0) (a .reached) w r (c .run .result))
-ran c = run-found (asked (passed c)) (pass (passed c)) (start (passed c) .args .backward) (indexed c .neighbours .ensures) (c .run .ensures)
+ran : (c : tie.After-run) → (let a = asked (passed c) in let (w, (r, _)) = c .run .last .1 .1 .1 .1 in Found (tableOf a (start (passed c) .args .backward)) (a .starts) (a .permitted) (indexed (c .before) .neighbours .last .1 .1 .1 .1 .0) (a .reached) w r (c .run .result))
+ran c = run-found (asked (passed c)) (pass (passed c)) (start (passed c) .args .backward) (indexed (c .before) .neighbours .ensures) (c .run .ensures)
 
 run-requires : tie.Need-run-requires
-run-requires c κs =
-    let at-neighbours = c .before .before .before .before in
-    let at-if1 = at-neighbours .before .before in
-    run-ask (asked at-if1) (pass at-if1) (start at-if1 .args .backward) (at-neighbours .neighbours .ensures)
+run-requires c κs = let d = indexed c .before .before in run-ask (asked d) (pass d) (start d .args .backward) (indexed c .neighbours .ensures)
 
 size-requires : tie.Need-size-requires
 size-requires c κs =
-    let a = accepted _ (pass (passed (end c))) in
-    omega (arith, a .reached, a .table .small, ran (end c) .long)
+    let a = accepted _ (pass (passed (end (c .before)))) in
+    omega (arith, a .reached, a .table .small, ran (end (c .before)) .long)
 
 clear-requires : tie.Need-clear-requires
 clear-requires c κs =
-    let at-run = end (c .before .before .before) in
-    clear-ask _ (pass (passed at-run)) _ (ran at-run .frame .long ∙ indexed at-run .neighbours .ensures .long)
+    let at-run = end (c .before .before .before .before) in
+    clear-ask _ (pass (passed at-run)) _ (ran at-run .frame .long ∙ indexed (at-run .before) .neighbours .ensures .long)
 
 returns-2 : tie.Need-returns-2
 returns-2 c =
     let at-clear = c .before .before .before .before in
     let at-size = at-clear .before .before .before in
-    let at-run = end (at-size .before) in
+    let at-run = end (at-size .before .before) in
     let e = pass (passed at-run) in
-    record { refusal = sym e; gives = finished _ e _ (indexed at-run .neighbours .ensures) (ran at-run) (at-size .size .ensures) (at-clear .clear .ensures) }
+    record { refusal = sym e; gives = finished _ e _ (indexed (at-run .before) .neighbours .ensures) (ran at-run) (at-size .size .ensures) (at-clear .clear .ensures) }
 
 pub search-spec : {M : Type 1} → statement M
 search-spec =

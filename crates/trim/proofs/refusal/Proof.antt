@@ -8,9 +8,12 @@ use borrow.Author.Needs.{needs}
 use Rattle.trim.proofs.refusal.Statement.{statement}
 use Rattle.trim.proofs.refusal.Tie as tie
 
--- the beginning, seen from where the table has passed
+-- where the table and the sets are known, and the beginning, seen from where the table has passed
+abbrev sets : tie.Else1 → tie.After-shared-slice-known4
+sets c = c .before .before .before .before
+
 abbrev start : tie.Else1 → tie.Start
-start c = c .before .before .before .before .before .before .before .before
+start c = sets c .before .before .before .before
 
 pass : (c : tie.Else1) → (let s = start c .args in tableRefusal (s .n) (s .sources .now) (s .targets .now) ≡ 0)
 pass c = sym (c .before .check .ensures) ∙ c .if1 .left

@@ -5,25 +5,25 @@ use borrow.Author.Needs.{needs}
 use Rattle.trim.proofs.trim.Statement.{statement}
 use Rattle.trim.proofs.trim.Tie as tie
 
--- where the call is not refused, seen from the end of the steps; that place, seen from the measuring
+-- where the call is not refused, seen from the end of the steps; that end, seen from before the measuring
 abbrev passed : tie.After-run → tie.Else1
 passed c = c .before .before .before
 
-abbrev ran : tie.After-size-arg → tie.After-run
-ran c = c .before .before .before .before .before
+abbrev ran : tie.After-slice-known5 → tie.After-run
+ran c = c .before .before .before .before
 
 run-requires : tie.Need-run-requires
 run-requires c κs = let d = c .before .before in run-ask _ (sym (d .before .refusal .ensures) ∙ d .if1 .left)
 
 size-requires : tie.Need-size-requires
 size-requires c κs =
-    let d = passed (ran c) in
+    let d = passed (ran (c .before)) in
     let a = accepted _ (sym (d .before .refusal .ensures) ∙ d .if1 .left) in
-    omega (arith, a .left, a .table .small, ran c .run .ensures .long)
+    omega (arith, a .left, a .table .small, ran (c .before) .run .ensures .long)
 
 clear-requires : tie.Need-clear-requires
 clear-requires c κs =
-    let at-run = ran (c .before .before .before) in
+    let at-run = ran (c .before .before .before .before) in
     let d = passed at-run in
     clear-ask _ (sym (d .before .refusal .ensures) ∙ d .if1 .left) _ (at-run .run .ensures .numbers)
 
@@ -31,7 +31,7 @@ returns-2 : tie.Need-returns-2
 returns-2 c =
     let at-clear = c .before .before .before .before in
     let at-size = at-clear .before .before .before in
-    let at-run = ran (at-size .before) in
+    let at-run = ran (at-size .before .before) in
     let e = sym (passed at-run .before .refusal .ensures) ∙ passed at-run .if1 .left in
     record { refusal = sym e; gives = finished _ e (at-run .run .ensures) (at-size .size .ensures) (at-clear .clear .ensures) }
 

@@ -11,19 +11,19 @@ use native.Mathlib.Omega.{arith}
 use Rattle.certificate.proofs.entries.offer.Statement.{statement}
 use Rattle.certificate.proofs.entries.offer.Tie as tie
 
-abbrev start : tie.Else1 → tie.Start
-start c = c .before .before .before .before .before
+abbrev start : tie.After-shared-slice-known4 → tie.Start
+start c = c .before .before .before .before
 
 -- the distance of the vertex that e leaves is a number of 32 bits
-distance : (c : tie.After-slice-known2) → let s = start (c .before .before) .args in Fits w32 (getD (s .w .now) (s .d + getD (s .sources .now) (s .e) 0) 0)
-distance c = let s = start (c .before .before) .args in c .slice-known2 .given (s .d + getD (s .sources .now) (s .e) 0)
+distance : (c : tie.After-slice-known2) → let s = start (c .before .before .before) .args in Fits w32 (getD (s .w .now) (s .d + getD (s .sources .now) (s .e) 0) 0)
+distance c = let s = start (c .before .before .before) .args in c .slice-known2 .given (s .d + getD (s .sources .now) (s .e) 0)
 
 returns : tie.Need-returns
 unfolding fits
 returns c = inr (rw (eq-eqb _ _ refl, ne-eqb _ _ (c .if1 .taken)), refl)
 
 cast-x : tie.Need-cast-x
-cast-x c = let s = start (c .before) .args in omega (arith, c .slice-known .given (s .d + getD (s .targets .now) (s .e) 0))
+cast-x c = let s = start (c .before .before) .args in omega (arith, c .slice-known .given (s .d + getD (s .targets .now) (s .e) 0))
 
 cast-y : tie.Need-cast-y
 cast-y c = omega (arith, distance c)

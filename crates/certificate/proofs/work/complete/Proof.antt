@@ -3,8 +3,8 @@ use borrow.Author.Needs.{needs}
 use Rattle.certificate.proofs.work.complete.Statement.{statement}
 use Rattle.certificate.proofs.work.complete.Tie as tie
 
-abbrev start : tie.After-entries → tie.Start
-start c = c .before .before .before .before .before .before
+abbrev start : tie.After-slice-known → tie.Start
+start c = c .before .before .before .before
 
 entries-requires : tie.Need-entries-requires
 entries-requires c κs = search enter-ask
@@ -16,7 +16,7 @@ ranks-requires : tie.Need-ranks-requires
 ranks-requires c κs =
     let y = c .before .before .before in
     let x = y .before .before .before .before in
-    ranks-ask (start x .pre) (x .entries .ensures) (y .entries2 .ensures)
+    ranks-ask (start (x .before .before) .pre) (x .entries .ensures) (y .entries2 .ensures)
 
 returns : tie.Need-returns
 returns c = search complete-end

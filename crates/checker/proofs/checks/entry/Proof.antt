@@ -10,9 +10,9 @@ use Rattle.checker.proofs.checks.entry.Tie as tie
 abbrev start : tie.After-shared-slice-known2 → tie.Start
 start c = c .before .before .before .before
 
--- where both ends of the edge are read, seen from the last test
-abbrev read : tie.Else4 → tie.After-shared-slice-known2
-read c = c .before .before .before .before .before
+-- where both ends of the edge are read, seen from where the distance is read
+abbrev read : tie.After-shared-slice-known5 → tie.After-shared-slice-known2
+read c = c .before .before .before .before
 
 -- the edge leaves a vertex
 low : (c : tie.After-shared-slice-known2) → let s = start c .args in getD (s .sources .now) (s .e) 0 < s .n
@@ -31,17 +31,17 @@ unfolding entry
 returns-3 c = search (lt-ltb, le-ltb, eq-eqb, ne-eqb)
 
 cast-d : tie.Need-cast-d
-cast-d c = let s = start (c .before .before .before .before) .args in omega (arith, c .shared-slice-known5 .given (s .v))
+cast-d c = let s = start (read c) .args in omega (arith, c .shared-slice-known5 .given (s .v))
 
 returns-4 : tie.Need-returns-4
 unfolding entry
 returns-4 c = search (lt-ltb, le-ltb, eq-eqb, ne-eqb)
 
 cast-before : tie.Need-cast-before
-cast-before c = let s = start (read (c .before)) .args in omega (arith, c .shared-slice-known6 .given (getD (s .sources .now) (s .e) 0))
+cast-before c = let s = start (read (c .before .before)) .args in omega (arith, c .shared-slice-known6 .given (getD (s .sources .now) (s .e) 0))
 
 add-result : tie.Need-add-result
-add-result c = let s = start (read (c .before)) .args in omega (arith, c .shared-slice-known6 .given (getD (s .sources .now) (s .e) 0))
+add-result c = let s = start (read (c .before .before)) .args in omega (arith, c .shared-slice-known6 .given (getD (s .sources .now) (s .e) 0))
 
 returns-5 : tie.Need-returns-5
 unfolding entry
@@ -68,8 +68,8 @@ entry-spec =
     (λ c. search needs)
     cast-d
     returns-4
-    (λ c. omega (arith, low (read c)))
     (λ c. omega (arith, low (read (c .before))))
+    (λ c. omega (arith, low (read (c .before .before))))
     cast-before
     add-result
     returns-5)

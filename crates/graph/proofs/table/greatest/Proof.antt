@@ -17,7 +17,7 @@ abbrev μ-loop : tie.MeasureT-loop
 loop-again : tie.Need-loop-again Inv-loop μ-loop
 loop-again c =
     let at-loop = c .before .before .before .loop in
-    (omega arith, greatest-step (c .before .before .before .before .before .args .xs .now) (at-loop .i) (at-loop .top) (c .greater .result) (at-loop .inv .1) (c .greater .ensures))
+    (omega arith, greatest-step _ (at-loop .i) (at-loop .top) (c .greater .result) (at-loop .inv .1) (c .greater .ensures))
 
 returns : tie.Need-returns Inv-loop μ-loop
 returns c =

@@ -4,8 +4,8 @@ use Rattle.machine.specs.Machine.{clears, hands}
 use Rattle.machine.proofs.step.step.Statement.{statement}
 use Rattle.machine.proofs.step.step.Tie as tie
 
-clear-requires : tie.Need-clear-requires
-clear-requires c κs = search needs
+abbrev start : tie.Else1 → tie.Start
+start c = c .before .before .before .before
 
 returns : tie.Need-returns
 returns c =
@@ -15,12 +15,8 @@ returns c =
 hand-requires : tie.Need-hand-requires
 hand-requires c κs =
     let at-if2 = c .before in
-    let start = at-if2 .before .before .before .before .before .before in
-    let a = start .pre .1 in
+    let a = start (at-if2 .before .before) .pre .1 in
     record { small = a .small; few = a .few; fits = a .fits; oldest = a .oldest; count = a .room (at-if2 .if2 .taken); given = omega (arith, a .pending, at-if2 .if2 .taken) }
-
-same-length : tie.Need-same-length
-same-length c = search needs
 
 returns-2 : tie.Need-returns-2
 returns-2 c =
@@ -32,14 +28,8 @@ take-requires : tie.Need-take-requires
 take-requires c κs =
     let at-if2 = c .before .before in
     let at-if1 = at-if2 .before .before in
-    let start = at-if1 .before .before .before .before in
-    (start .pre .0, record { ask = start .pre .1; cleared = at-if1 .if1 .left; given = at-if2 .if2 .left })
-
-same-length-2 : tie.Need-same-length-2
-same-length-2 c = search needs
-
-same-length-3 : tie.Need-same-length-3
-same-length-3 c = search needs
+    let (g, a) = start at-if1 .pre in
+    (g, record { ask = a; cleared = at-if1 .if1 .left; given = at-if2 .if2 .left })
 
 returns-3 : tie.Need-returns-3
 returns-3 c =
@@ -52,12 +42,12 @@ pub step-spec : {M : Type 1} → statement M
 step-spec =
     tie.close
     (tie.spec
-    clear-requires
+    (λ c κs. search needs)
     returns
     hand-requires
-    same-length
+    (λ c. search needs)
     returns-2
     take-requires
-    same-length-2
-    same-length-3
+    (λ c. search needs)
+    (λ c. search needs)
     returns-3)

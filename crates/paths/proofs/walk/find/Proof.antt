@@ -11,8 +11,8 @@ abbrev table : (s : tie.Start) → Graph
 table s = graph (s .args .n) (s .args .sources .now) (s .args .targets .now)
 
 -- the stages, each seen from the next
-abbrev start : tie.After-one → tie.Start
-start c = c .before .before .before .before .before
+abbrev start : tie.After-one-arg → tie.Start
+start c = c .before .before .before .before
 
 abbrev one : tie.After-numbers → tie.After-one
 one c = c .before .before .before .before
@@ -20,29 +20,29 @@ one c = c .before .before .before .before
 abbrev numbers : tie.After-fill → tie.After-numbers
 numbers c = c .before .before .before .before
 
-all : (c : tie.After-measure) → let s = start (one (numbers (c .before .before .before .before))) in Prepared (table s) (s .args .u) (s .args .w .now) (c .measure .last .1 .0)
+all : (c : tie.After-measure) → let s = start (one (numbers (c .before .before .before .before)) .before) in Prepared (table s) (s .args .u) (s .args .w .now) (c .measure .last .1 .0)
 all c =
     let f = c .before .before .before .before in
-    let s = start (one (numbers f)) in
+    let s = start (one (numbers f) .before) in
     let x = indexed (s .pre) (one (numbers f) .one .ensures) (numbers f .numbers .ensures) in
     find-all (s .pre) x (f .fill .ensures) (c .measure .ensures (arrows (table s)) (measure-ask (s .pre) x (f .fill .ensures)))
 
 one-requires : tie.Need-one-requires
-one-requires c κs = one-ask (c .before .before .before .before .pre)
+one-requires c κs = one-ask (start c .pre)
 
 numbers-requires : tie.Need-numbers-requires
-numbers-requires c κs = let x = c .before .before .before in numbers-ask (start x .pre) (x .one .ensures)
+numbers-requires c κs = let x = c .before .before .before in numbers-ask (start (x .before) .pre) (x .one .ensures)
 
 fill-requires : tie.Need-fill-requires
 fill-requires c κs =
     let x = c .before .before .before in
-    let a = start (one x) .pre in
+    let a = start (one x .before) .pre in
     fill-room a (indexed a (one x .one .ensures) (x .numbers .ensures))
 
 measure-requires : tie.Need-measure-requires
 measure-requires c κs =
     let f = c .before .before .before in
-    let s = start (one (numbers f)) in
+    let s = start (one (numbers f) .before) in
     (arrows (table s), measure-ask (s .pre) (indexed (s .pre) (one (numbers f) .one .ensures) (numbers f .numbers .ensures)) (f .fill .ensures))
 
 returns : tie.Need-returns

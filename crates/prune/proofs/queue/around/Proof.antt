@@ -15,9 +15,9 @@ Inv-loop n m w₀ b eb i0 t q k0 i₀ k₀ w i k = (i0 ≤ i) × (i ≤ t) × So
 abbrev μ-loop : tie.MeasureT-loop
 μ-loop n m w₀ b eb i0 t q k0 i₀ k₀ w i k = t - i
 
--- the beginning of a turn, seen from its end
-abbrev turn : tie.After-slice-known3 Inv-loop μ-loop → tie.In-loop Inv-loop μ-loop
-turn c = c .before .before .before .before .before
+-- the beginning of a turn, seen from where its neighbour is examined
+abbrev turn : tie.After-examine Inv-loop μ-loop → tie.In-loop Inv-loop μ-loop
+turn c = c .before .before .before
 
 loop-holds : tie.Need-loop-holds Inv-loop μ-loop
 loop-holds c = let (g, a) = c .before .pre in (omega arith, a .order, (g, (a, around-none a)), λ g a. around-none a)
@@ -30,8 +30,8 @@ examine-requires c κs = let (l, _, (g, (a, z)), f) = c .before .before .before 
 
 loop-again : tie.Need-loop-again Inv-loop μ-loop
 loop-again c =
-    let (l, _, (g, (a, z)), f) = turn c .before .loop .inv in
-    let h = turn c .loop-test .taken in
+    let (l, _, (g, (a, z)), f) = turn (c .before .before) .before .loop .inv in
+    let h = turn (c .before .before) .loop-test .taken in
     let y = c .before .before .examine .ensures in
     (omega arith, omega arith, (g, (a, around-step a z l h (y g (around-ask a z l h)))), λ g a. let z = f g a in around-step a z l h (y g (around-ask a z l h)))
 

@@ -16,9 +16,9 @@ Inv-loop n m w₀ b q k0 h₀ k₀ w h k = (h ≤ k) × SomeOf n m (λ g. DrainA
 abbrev μ-loop : tie.MeasureT-loop
 μ-loop n m w₀ b q k0 h₀ k₀ w h k = n - h
 
--- the beginning of a turn, seen from its end
-abbrev turn : tie.After-slice-known3 Inv-loop μ-loop → tie.In-loop Inv-loop μ-loop
-turn c = c .before .before .before .before .before
+-- the beginning of a turn, seen from where the neighbours are examined
+abbrev turn : tie.After-beside Inv-loop μ-loop → tie.In-loop Inv-loop μ-loop
+turn c = c .before .before .before
 
 loop-holds : tie.Need-loop-holds Inv-loop μ-loop
 loop-holds c = let (g, a) = c .before .pre in (omega arith, (g, (a, pruned-none (a .state), a .standing)), λ g a. (pruned-none (a .state), a .standing))
@@ -34,9 +34,9 @@ beside-requires c κs =
 
 loop-again : tie.Need-loop-again Inv-loop μ-loop
 loop-again c =
-    let l = turn c .before .loop in
+    let l = turn (c .before .before) .before .loop in
     let (_, (g, (a, z, t)), f) = l .inv in
-    let h = turn c .loop-test .taken in
+    let h = turn (c .before .before) .loop-test .taken in
     let call = c .before .before .beside .ensures in
     let y = call g (drain-beside (l .h) (z .state) t h) in (
       omega (arith, y .pruned .more, h),

@@ -19,7 +19,8 @@ returns-2 c =
 
 slice-write-w-2 : tie.Need-slice-write-w-2
 slice-write-w-2 c =
-    let at-if1 = c .before .before .before .before .before in
+    let at-tied = c .before .before .before in
+    let at-if1 = at-tied .before .before in
     let (g, a) = at-if1 .before .before .before .pre in
     simp length-set (omega (arith, k-low a (at-if1 .if1 .left), a .state .walking .long))
 

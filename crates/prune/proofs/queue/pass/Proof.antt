@@ -17,9 +17,9 @@ Inv-loop n m w₀ b h q i₀ k₀ w i k = SomeOf n m (λ g. TrimAsk g b h q w₀
 abbrev μ-loop : tie.MeasureT-loop
 μ-loop n m w₀ b h q i₀ k₀ w i k = n - i
 
--- the beginning of a turn, seen from its end
-abbrev turn : tie.After-slice-known4 Inv-loop μ-loop → tie.In-loop Inv-loop μ-loop
-turn c = c .before .before .before .before .before .before
+-- the beginning of a turn, seen from where its vertex is examined
+abbrev turn : tie.After-examine Inv-loop μ-loop → tie.In-loop Inv-loop μ-loop
+turn c = c .before .before .before .before
 
 loop-holds : tie.Need-loop-holds Inv-loop μ-loop
 loop-holds c = let (g, a) = c .before .pre in ((g, (a, pruned-none (pass-state a))), along-head (a .chain), λ g a. (pruned-none (pass-state a), pass-none a))
@@ -38,14 +38,14 @@ examine-requires c κs = let ((g, (a, z)), l, f) = c .before .before .before .be
 
 loop-less : tie.Need-loop-less Inv-loop μ-loop
 loop-less c =
-    let ((g, (a, z)), l, f) = turn c .before .loop .inv in
-    let h = turn c .loop-test .taken in
+    let ((g, (a, z)), l, f) = turn (c .before .before) .before .loop .inv in
+    let h = turn (c .before .before) .loop-test .taken in
     omega (arith, pass-next a l z h, a .chain .next _ h (l .here h) .more)
 
 loop-again : tie.Need-loop-again Inv-loop μ-loop
 loop-again c =
-    let ((g, (a, z)), l, f) = turn c .before .loop .inv in
-    let h = turn c .loop-test .taken in
+    let ((g, (a, z)), l, f) = turn (c .before .before) .before .loop .inv in
+    let h = turn (c .before .before) .loop-test .taken in
     let y = c .before .before .examine .ensures in
     rw (pass-next a l z h) (
       (g, (a, pruned-more z (y g (pass-examine a l z h) .pruned))),

@@ -4,8 +4,8 @@ use Rattle.reach.proofs.steps.choose.Statement.{statement}
 use Rattle.reach.proofs.steps.choose.Tie as tie
 
 -- each place seen from the next: the beginning, the emptying, the joining, the meeting
-abbrev start : tie.After-zero-words → tie.Start
-start c = c .before .before .before .before .before
+abbrev start : tie.After-zero-words-arg → tie.Start
+start c = c .before .before .before .before
 
 abbrev emptied : tie.After-join → tie.After-zero-words
 emptied c = c .before .before .before .before
@@ -18,7 +18,7 @@ returns c =
     let at-clip = c .before .before in
     let at-meet = at-clip .before .before .before .before in
     let j = joined at-meet in
-    chosen (start (emptied j) .pre) (emptied j .zero-words .ensures) (j .join .ensures) (at-meet .meet .ensures) (at-clip .clip .ensures)
+    chosen (start (emptied j .before) .pre) (emptied j .zero-words .ensures) (j .join .ensures) (at-meet .meet .ensures) (at-clip .clip .ensures)
 
 pub choose-spec : {M : Type 1} → statement M
 choose-spec =

@@ -5,9 +5,12 @@ use Rattle.trim.proofs.Whole.{both-ask, trim-ask, collect-ask, ran}
 use Rattle.trim.proofs.stages.run.Statement.{statement}
 use Rattle.trim.proofs.stages.run.Tie as tie
 
--- each place seen from the next: the beginning, the indexes, the colours, the chain
+-- each place seen from the next: where table and part are known, the beginning, the indexes, the colours, the chain, the trimming, the emptying
+abbrev shared : tie.After-both-arg → tie.After-shared-slice-known3
+shared c = c .before .before .before
+
 abbrev start : tie.After-both-arg → tie.Start
-start c = c .before .before .before .before .before .before
+start c = shared c .before .before .before
 
 abbrev built : tie.After-colour → tie.After-both
 built c = c .before .before .before .before
@@ -15,8 +18,11 @@ built c = c .before .before .before .before
 abbrev coloured : tie.After-string → tie.After-colour
 coloured c = c .before .before .before .before
 
-abbrev strung : tie.After-zero-words → tie.After-string
-strung c = c .before .before .before .before .before .before .before .before
+abbrev strung : tie.After-prune → tie.After-string
+strung c = c .before .before .before .before
+
+abbrev pruned : tie.After-zero-words → tie.After-prune
+pruned c = c .before .before .before .before
 
 abbrev emptied : tie.After-collect-arg2 → tie.After-zero-words
 emptied c = c .before .before .before .before
@@ -34,20 +40,20 @@ prune-requires c κs =
 collect-requires : tie.Need-collect-requires
 collect-requires c κs =
     let z = emptied c in
-    let d = strung z in
+    let d = strung (pruned z) in
     let a = start (built (coloured d) .before) .pre in
     let o = built (coloured d) .both .ensures in
     let y = coloured d .colour .ensures in
-    collect-ask a o y (d .string .ensures) (z .before .before .before .before .prune .ensures (arrows (given d)) (trim-ask a o y (d .string .ensures))) (z .zero-words .ensures)
+    collect-ask a o y (d .string .ensures) (pruned z .prune .ensures (arrows (given d)) (trim-ask a o y (d .string .ensures))) (z .zero-words .ensures)
 
 returns : tie.Need-returns
 returns c =
     let z = emptied (c .before .before .before) in
-    let d = strung z in
+    let d = strung (pruned z) in
     let a = start (built (coloured d) .before) .pre in
     let o = built (coloured d) .both .ensures in
     let y = coloured d .colour .ensures in
-    let t = z .before .before .before .before .prune .ensures (arrows (given d)) (trim-ask a o y (d .string .ensures)) in
+    let t = pruned z .prune .ensures (arrows (given d)) (trim-ask a o y (d .string .ensures)) in
     ran a o y (d .string .ensures) t (z .zero-words .ensures) (c .before .before .collect .ensures)
 
 pub run-spec : {M : Type 1} → statement M
