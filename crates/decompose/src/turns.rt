@@ -21,8 +21,9 @@ pub fn drive(
     while 0 < s.go {
         let i = s.read;
         let p = waiting::at(parts, i);
-        s = step::step(n, m, numbers, words, p, s);
-        waiting::put(parts, i, s.part);
+        let e = step::step(n, m, numbers, words, p, s);
+        waiting::put(parts, i, e.part);
+        s = e;
     }
     s
 }

@@ -15,7 +15,7 @@ use ghost.Atoms.{Atoms, sem}
 use sound.WpLaws.{FmC, WpFn-mono}
 use contract.Lifetimes.{Lfts, Shares, AllOutlive, toks}
 use contract.Monad.{fact, factI}
-use types.Kit.{Given, Item, ‵, raw, some, later, _⊛_, ⋆, ++⊢, ⊢++, push, Go, !, Goal, Soaks, prop, runs, lands, settles, allocs, params′, atRet, Post, Seq, _$_, cut, use1, await, pick, split, move}
+use types.Kit.{Given, Item, ‵, raw, some, later, _⊛_, ⋆, ++⊢, ⊢++, push, Go, !, Goal, Soaks, prop, runs, lands, allocs, params′, atRet, Post, Seq, _$_, cut, use1, await, pick, split, move}
 use types.Run.{Opds, enter}
 use denote.RattleType.{RattleType, Denots, Valss, owns, flat}
 use denote.Laws.{Is, shows, Ises, Are, Spells, valss, Tellss, Tells}
@@ -27,7 +27,7 @@ use denote.Triple.Entry.{Args, alive, onEntry}
 use denote.Triple.Bound.{Bound}
 use denote.Triple.Spec.{Meets, tripleOf}
 use denote.Triple.Statement.{Contract, Triple}
-use denote.Triple.Call.{calls-at, calls-at-last}
+use denote.Triple.Call.{calls-at}
 use denote.Triple.Clauses.{Ended, Clauses, Lasts, atExit, lasts, ensured, closing}
 use denote.Triple.Walked.{Stays, Fit, hasOf, AllGo, walkOf, ends-at, walked, walk-meets}
 use Rattle.walks.proofs.Moves.{star, eachOf, items, items-out, Sources, heads, heads-in, tokens, tokens-in, tokens-out}
@@ -159,17 +159,6 @@ module _ {M : Type 1} {𝓤 : URA M} {H : Heap 𝓤} {A : Atoms 𝓤} {K : Type 
     asks {rest} fm known y ss req val tells t os k =
         cut (heads 𝓤 H A (brought 𝓤 H A T c y) ss ++ alives 𝓤 H A T c y) (raw (Agreed 𝓤 H A T c .pre y) ∷ []) Γ (entry 𝓤 H A T c y ss req) $
         calls-at t fm (Agreed 𝓤 H A T c) known y os (received t y val tells (λ w. lands C Λ E d w rest q) (λ w. tt) k)
-
-    -- the same of a call that is the last statement of its part
-    pub asks-last : FmC 𝓤 H (W .laws) C → Triple 𝓤 (C f) (Agreed 𝓤 H A T c) → (y : Agreed 𝓤 H A T c .Ghost) (ss : Sources 𝓤 H A (brought 𝓤 H A T c y)) → ent 𝓤 (emp 𝓤) (Required 𝓤 H A T c y)
-        → (val : Result 𝓤 H A T c y .Denot → Val) → Tells (Result 𝓤 H A T c y) (Is (Result 𝓤 H A T c y)) (λ r. val r ∷ []) → K → Opds K W (raw (Agreed 𝓤 H A T c .pre y) ∷ Γ) E xs
-        (Agreed 𝓤 H A T c .args y)
-        → ((r : Result 𝓤 H A T c y .Denot) (ws : Lasts T (y .0 .0) (y .0 .3)) → Is (Result 𝓤 H A T c y) r (val r ∷ [])
-        → Seq K W ((raw (Ensured 𝓤 H A T c y r ws) ∷ (left-at 𝓤 H A T c y ws ++ alives 𝓤 H A T c y)) ++ Γ) (settles E d (val r) q))
-        → Seq K W ((heads 𝓤 H A (brought 𝓤 H A T c y) ss ++ alives 𝓤 H A T c y) ++ Γ) (runs C Λ E (call f xs d) q)
-    asks-last fm known y ss req val tells t os k =
-        cut (heads 𝓤 H A (brought 𝓤 H A T c y) ss ++ alives 𝓤 H A T c y) (raw (Agreed 𝓤 H A T c .pre y) ∷ []) Γ (entry 𝓤 H A T c y ss req) $
-        calls-at-last t fm (Agreed 𝓤 H A T c) known y os (received t y val tells (λ w. settles E d w q) (λ w. tt) k)
 
 -- the end of a walk: nothing but what is had and the tokens stands in the context
 pub ends : {M : Type 1} {𝓤 : URA M} {H : Heap 𝓤} {A : Atoms 𝓤} {K : Type 0} (W : Given 𝓤 H A) (T : Ended) (c : Clauses 𝓤 T) (hs : Stays (T .signature .params) (T .kept))

@@ -24,7 +24,7 @@ use contract.Monad.{Fun}
 use contract.Running.{givenOf, tables, tablesOf}
 use contract.Lifetimes.{Lfts, Shares, AllOutlive}
 use types.Kit.{Given, Item, ‵, anyQ, atRet, runs, Sq, _$_, !, move, keep, rewrite}
-use types.Run.{look, init, store, stop, hop, fld, from, load, lit, addr, of-opd, bin, and-then, no-more, assigns, land, land-last, stays, leaves-loop, first, blocks, exec, again, loops, Below, returns, params1, pass1, pass0}
+use types.Run.{look, init, store, stop, hop, fld, from, load, lit, addr, of-opd, bin, and-then, no-more, assigns, land, assigns-last, stays, leaves-loop, first, blocks, exec, again, loops, Below, returns, params1, pass1, pass0}
 use types.Part.{agg, whole, sub, look-in}
 use sound.WpLaws.{fmOf}
 use denote.Laws.{Is, Ises, Are}
@@ -42,7 +42,7 @@ use denote.Triple.Walked.{Stays, stay-slice, stay-none, walkOf, goes-slice, goes
 use denote.Exit.{yes}
 use Rattle.graph.specs.Arrows.{Arrows, on, sized, SomeOf, EveryOf}
 use Rattle.walks.proofs.Moves.{here, made, Addresses, spots, allocated, locals, full, bare, end, _and_, freed, held, empty, cells, rest, both, lose, loosen}
-use Rattle.walks.proofs.Calls.{Agreed, know, asks, asks-last, ends, shown}
+use Rattle.walks.proofs.Calls.{Agreed, know, asks, ends, shown}
 use Rattle.walks.proofs.Lent.{named-as, slice, lend, back}
 use Rattle.waiting.specs.declared.Part.{Part}
 use Rattle.waiting.specs.Records.{none}
@@ -146,7 +146,7 @@ module _ {M : Type 1} (𝓤 : URA M) (H : Heap 𝓤) (A : Atoms 𝓤) (W : Given
         ∷ slice 𝓤 u64 (κs .1 .1 .0) (at-last words (t .words)) (length (words .now)) ∷ ‵ (flft (κs .1 .1 .0) (qs .1 .1 .0))
         ∷ cells 𝓤 (code.function .locals) bs (empty ∷ held (vint w64 n) ∷ held (vint w64 m) ∷ held (sliceVal (parts .ptr) (length (parts .now))) ∷ held
         (sliceVal (numbers .ptr) (length (numbers .now))) ∷ held (sliceVal (words .ptr) (length (words .now))) ∷ held (O′.lowered begun) ∷ held (O′.lowered (t .s))
-        ∷ empty ∷ empty ∷ empty ∷ empty ∷ empty ∷ empty ∷ empty ∷ empty ∷ empty ∷ empty ∷ empty ∷ empty ∷ []) []
+        ∷ empty ∷ empty ∷ empty ∷ empty ∷ empty ∷ empty ∷ empty ∷ empty ∷ empty ∷ empty ∷ empty ∷ empty ∷ empty ∷ []) []
 
     -- a turn's postcondition: it ends nearer, or the loop is left and the rest of the body runs
     abbrev After : St → Out → SProp 𝓤
@@ -160,29 +160,29 @@ module _ {M : Type 1} (𝓤 : URA M) (H : Heap 𝓤) (A : Atoms 𝓤) (W : Given
         let x₂ : RefT (List ℕ) = at-last numbers (t .numbers) in
         let x₃ : RefT (List ℕ) = at-last words (t .words) in
         let low = LL.owed O.the-type O′.the-laws (t .s) _ (t .fits) .1 .0 .1 in
-        -- [the list; …; the numbers; …; the words; …; _19; …; _18; … with _7 at 30]
-        assigns ! (bin ! (lit ! tt) (load ! (from ! (fld ! refl (stop !))) (look-in ! 30 (sub ! 0 refl (whole !)))) tt) (from ! (stop !)) (init ! 24 refl (tt, tt)) $
-        rewrite ! 24 (λ (u : Bool). ‵ (fat fullShare tyBool (bs .1 .1 .1 .1 .1 .1 .1 .1 .1 .1 .0) 0 (vbool u))) pos refl $ stays ! (load ! (from ! (stop !)) (look ! 24 refl)) $
-        assigns ! (of-opd ! (load ! (from ! (fld ! refl (stop !))) (look-in ! 30 (sub ! 1 refl (whole !))))) (from ! (stop !)) (init ! 28 refl (tt, record { fits = low })) $
+        -- [the list; …; the numbers; …; the words; …; _20; …; _19; … with _7 at 32]
+        assigns ! (bin ! (lit ! tt) (load ! (from ! (fld ! refl (stop !))) (look-in ! 32 (sub ! 0 refl (whole !)))) tt) (from ! (stop !)) (init ! 24 refl (tt, tt)) $
+        rewrite ! 24 (λ (u : Bool). ‵ (fat fullShare tyBool (bs .1 .1 .1 .1 .1 .1 .1 .1 .1 .1 .1 .0) 0 (vbool u))) pos refl $ stays ! (load ! (from ! (stop !)) (look ! 24 refl)) $
+        assigns ! (of-opd ! (load ! (from ! (fld ! refl (stop !))) (look-in ! 32 (sub ! 1 refl (whole !))))) (from ! (stop !)) (init ! 30 refl (tt, record { fits = low })) $
         -- the record is read
-        assigns ! (addr ! (from ! (fld ! refl (hop ! (look-in ! 38 (sub ! 0 refl (whole !))) (stop !))))) (from ! (stop !)) (init ! 22 refl (tt, tt)) $
-        assigns ! (agg ! (and-then ! (load ! (from ! (stop !)) (look ! 22 refl)) (and-then ! (load ! (from ! (fld ! refl (stop !))) (look-in ! 38 (sub ! 1 refl (whole !)))) (no-more !))))
+        assigns ! (addr ! (from ! (fld ! refl (hop ! (look-in ! 40 (sub ! 0 refl (whole !))) (stop !))))) (from ! (stop !)) (init ! 22 refl (tt, tt)) $
+        assigns ! (agg ! (and-then ! (load ! (from ! (stop !)) (look ! 22 refl)) (and-then ! (load ! (from ! (fld ! refl (stop !))) (look-in ! 40 (sub ! 1 refl (whole !)))) (no-more !))))
         (from ! (stop !)) (init ! 20 refl (tt, (tt, (record { fits = are .1 .1 .0 .0 .1 .0 }, tt)))) $
         lend ! tt P.the-row (κs .0) (qs .0) x₁ (length (parts .now)) (t .same-parts) (λ ν δ.
         asks W at.ended (at.clauses 𝓤 H A mem run) (fmOf 𝓤 H (W .laws) 𝓣) (known .0)
         (((ν ∷ [], tt), (fullShare, tt), tt, (named-as x₁ δ, (t .s .read, tt)), (slice-vals parts, (vint w64 (t .s .read) ∷ [], tt))), tt)
         (here, (made (uint-makes 𝓤 H A W w64 (t .s .read) _ (refl, low)), tt))
         (know 𝓤 H A _ (driving-read (t .run (pre .0) (pre .1)) l)) P′.lowered (LL.tells P.the-type P′.the-laws) !
-        (and-then ! (load ! (from ! (stop !)) (look ! 20 refl)) (and-then ! (load ! (from ! (stop !)) (look ! 28 refl)) (no-more !))) (λ p ws is-p.
+        (and-then ! (load ! (from ! (stop !)) (look ! 20 refl)) (and-then ! (load ! (from ! (stop !)) (look ! 30 refl)) (no-more !))) (λ p ws is-p.
         heard ! ((p ≡ getD (t .parts) (t .s .read) none) × (ws .0 ≡ t .parts)) (λ read.
         back ! tt P.the-row (κs .0) (qs .0) x₁ (ws .0) ν δ (length (parts .now)) (are .1 .1 .0 .0 .1) (t .same-parts) (λ same.
-        land ! (from ! (stop !)) (init ! 26 refl (LL.lawful P.the-type P′.the-laws 𝓤 H A W .typed p _ is-p .0)) $
+        land ! (from ! (stop !)) (init ! 28 refl (LL.lawful P.the-type P′.the-laws 𝓤 H A W .typed p _ is-p .0)) $
         -- the machine steps
-        assigns ! (addr ! (from ! (fld ! refl (hop ! (look-in ! 36 (sub ! 0 refl (whole !))) (stop !))))) (from ! (stop !)) (init ! 18 refl (tt, tt)) $
-        assigns ! (agg ! (and-then ! (load ! (from ! (stop !)) (look ! 18 refl)) (and-then ! (load ! (from ! (fld ! refl (stop !))) (look-in ! 36 (sub ! 1 refl (whole !)))) (no-more !))))
+        assigns ! (addr ! (from ! (fld ! refl (hop ! (look-in ! 38 (sub ! 0 refl (whole !))) (stop !))))) (from ! (stop !)) (init ! 18 refl (tt, tt)) $
+        assigns ! (agg ! (and-then ! (load ! (from ! (stop !)) (look ! 18 refl)) (and-then ! (load ! (from ! (fld ! refl (stop !))) (look-in ! 38 (sub ! 1 refl (whole !)))) (no-more !))))
         (from ! (stop !)) (init ! 16 refl (tt, (tt, (record { fits = are .1 .1 .1 .0 .0 .1 .0 }, tt)))) $
-        assigns ! (addr ! (from ! (fld ! refl (hop ! (look-in ! 34 (sub ! 0 refl (whole !))) (stop !))))) (from ! (stop !)) (init ! 14 refl (tt, tt)) $
-        assigns ! (agg ! (and-then ! (load ! (from ! (stop !)) (look ! 14 refl)) (and-then ! (load ! (from ! (fld ! refl (stop !))) (look-in ! 34 (sub ! 1 refl (whole !)))) (no-more !))))
+        assigns ! (addr ! (from ! (fld ! refl (hop ! (look-in ! 36 (sub ! 0 refl (whole !))) (stop !))))) (from ! (stop !)) (init ! 14 refl (tt, tt)) $
+        assigns ! (agg ! (and-then ! (load ! (from ! (stop !)) (look ! 14 refl)) (and-then ! (load ! (from ! (fld ! refl (stop !))) (look-in ! 36 (sub ! 1 refl (whole !)))) (no-more !))))
         (from ! (stop !)) (init ! 12 refl (tt, (tt, (record { fits = are .1 .1 .1 .1 .0 .0 .1 .0 }, tt)))) $
         move ! (2 ∷ 3 ∷ []) $ lend ! tt u32 (κs .1 .0) (qs .1 .0) x₂ (length (numbers .now)) (t .same-numbers) (λ ν₂ δ₂.
         move ! (5 ∷ 6 ∷ []) $ lend ! tt u64 (κs .1 .1 .0) (qs .1 .1 .0) x₃ (length (words .now)) (t .same-words) (λ ν₃ δ₃.
@@ -190,38 +190,39 @@ module _ {M : Type 1} (𝓤 : URA M) (H : Heap 𝓤) (A : Atoms 𝓤) (W : Given
         (((ν₂ ∷ [], (ν₃ ∷ [], tt)), (fullShare, (fullShare, tt)), tt, (n, (m, (named-as x₂ δ₂, (named-as x₃ δ₃, (p, (t .s, tt)))))), (vint w64 n ∷ [], (vint w64 m ∷ [], (slice-vals numbers, (slice-vals words, (P′.lowered p ∷ [], (O′.lowered (t .s) ∷ [], tt))))))), tt)
         (made (uint-makes 𝓤 H A W w64 n _ (are .0)), (made (uint-makes 𝓤 H A W w64 m _ (are .1 .0)), (here, (here, (made (LL.makes P.the-type P′.the-plain 𝓤 H A p _ is-p), (made (LL.makes O.the-type O′.the-plain 𝓤 H A (t .s) _ (t .fits)), tt))))))
         (know 𝓤 H A _ (pre .0, asked t l read (pre .0) (pre .1))) O′.lowered (LL.tells O.the-type O′.the-laws) !
-        (and-then ! (load ! (from ! (stop !)) (look ! 41 refl)) (and-then ! (load ! (from ! (stop !)) (look ! 39 refl))
+        (and-then ! (load ! (from ! (stop !)) (look ! 43 refl)) (and-then ! (load ! (from ! (stop !)) (look ! 41 refl))
         (and-then ! (load ! (from ! (stop !)) (look ! 15 refl)) (and-then ! (load ! (from ! (stop !)) (look ! 11 refl))
-        (and-then ! (load ! (from ! (stop !)) (look ! 25 refl)) (and-then ! (load ! (from ! (stop !)) (look ! 29 refl)) (no-more !)))))))
+        (and-then ! (load ! (from ! (stop !)) (look ! 27 refl)) (and-then ! (load ! (from ! (stop !)) (look ! 31 refl)) (no-more !)))))))
         (λ e vs is-e. heard ! (EveryOf n m (λ g. StepAsk g p (t .s) (t .numbers) (t .words) → Stepped g p (t .s) (t .numbers) (t .words) (vs .1 .1 .0) (vs .1 .1 .1 .0) e)) (λ steps.
         move ! (0 ∷ 2 ∷ 5 ∷ []) $ back ! tt u32 (κs .1 .0) (qs .1 .0) x₂ (vs .1 .1 .0) ν₂ δ₂ (length (numbers .now)) (are .1 .1 .1 .0 .0 .1) (t .same-numbers) (λ same₂.
         move ! (2 ∷ 3 ∷ 4 ∷ []) $ back ! tt u64 (κs .1 .1 .0) (qs .1 .1 .0) x₃ (vs .1 .1 .1 .0) ν₃ δ₃ (length (words .now)) (are .1 .1 .1 .1 .0 .0 .1) (t .same-words) (λ same₃.
-        land ! (from ! (stop !)) (store ! 30 refl (LL.lawful O.the-type O′.the-laws 𝓤 H A W .typed e _ is-e .0)) $
+        land ! (from ! (stop !)) (init ! 26 refl (LL.lawful O.the-type O′.the-laws 𝓤 H A W .typed e _ is-e .0)) $
         -- [the words; …; the numbers; …; the list; …; the locals], and the record is put
-        assigns ! (addr ! (from ! (fld ! refl (hop ! (look-in ! 38 (sub ! 0 refl (whole !))) (stop !))))) (from ! (stop !)) (init ! 8 refl (tt, tt)) $
-        assigns ! (agg ! (and-then ! (load ! (from ! (stop !)) (look ! 8 refl)) (and-then ! (load ! (from ! (fld ! refl (stop !))) (look-in ! 38 (sub ! 1 refl (whole !)))) (no-more !))))
+        assigns ! (addr ! (from ! (fld ! refl (hop ! (look-in ! 40 (sub ! 0 refl (whole !))) (stop !))))) (from ! (stop !)) (init ! 8 refl (tt, tt)) $
+        assigns ! (agg ! (and-then ! (load ! (from ! (stop !)) (look ! 8 refl)) (and-then ! (load ! (from ! (fld ! refl (stop !))) (look-in ! 40 (sub ! 1 refl (whole !)))) (no-more !))))
         (from ! (stop !)) (init ! 6 refl (tt, (tt, (record { fits = are .1 .1 .0 .0 .1 .0 }, tt)))) $
         move ! (4 ∷ 5 ∷ []) $ lend ! tt P.the-row (κs .0) (qs .0) (at-last parts (ws .0)) (length (parts .now)) (same ∙ t .same-parts) (λ ν₁ δ₁.
-        asks-last W put.ended (put.clauses 𝓤 H A mem run) (fmOf 𝓤 H (W .laws) 𝓣) (known .1 .1)
+        asks W put.ended (put.clauses 𝓤 H A mem run) (fmOf 𝓤 H (W .laws) 𝓣) (known .1 .1)
         (((ν₁ ∷ [], tt), (fullShare, tt), tt, (named-as (at-last parts (ws .0)) δ₁, (t .s .read, (e .part, tt))), (slice-vals parts, (vint w64 (t .s .read) ∷ [], (P′.lowered (e .part) ∷ [], tt)))), tt)
         (here, (made (uint-makes 𝓤 H A W w64 (t .s .read) _ (refl, low)), (made (LL.makes P.the-type P′.the-plain 𝓤 H A (e .part) _ (LL.owed O.the-type O′.the-laws e _ is-e .1 .1 .0)), tt)))
         (know 𝓤 H A _ (omega (arith, same, driving-read (t .run (pre .0) (pre .1)) l))) (λ _. vunit) nothing-tells !
-        (and-then ! (load ! (from ! (stop !)) (look ! 6 refl)) (and-then ! (load ! (from ! (stop !)) (look ! 28 refl))
-        (and-then ! (load ! (from ! (fld ! refl (stop !))) (look-in ! 30 (sub ! 2 refl (whole !)))) (no-more !)))) (λ _ us _.
+        (and-then ! (load ! (from ! (stop !)) (look ! 6 refl)) (and-then ! (load ! (from ! (stop !)) (look ! 30 refl))
+        (and-then ! (load ! (from ! (fld ! refl (stop !))) (look-in ! 26 (sub ! 2 refl (whole !)))) (no-more !)))) (λ _ us _.
         heard ! (us .0 ≡ set (ws .0) (t .s .read) (e .part)) (λ puts.
         back ! tt P.the-row (κs .0) (qs .0) (at-last parts (ws .0)) (us .0) ν₁ δ₁ (length (parts .now)) (are .1 .1 .0 .0 .1) (same ∙ t .same-parts) (λ same₁.
-        land-last ! (from ! (stop !)) (init ! 10 refl (tt, tt)) $ move ! (0 ∷ 1 ∷ 4 ∷ 5 ∷ []) $
-        loosen ! (both (both (both (lose (lose (lose (lose (lose (lose (lose (lose (lose (lose (lose (lose rest))))))))))))))) $
+        land ! (from ! (stop !)) (init ! 10 refl (tt, tt)) $
+        assigns-last ! (of-opd ! (load ! (from ! (stop !)) (look ! 26 refl))) (from ! (stop !)) (store ! 32 refl (LL.lawful O.the-type O′.the-laws 𝓤 H A W .typed e _ is-e .0)) $ move ! (0 ∷ 1 ∷ 4 ∷ 5 ∷ []) $
+        loosen ! (both (both (both (lose (lose (lose (lose (lose (lose (lose (lose (lose (lose (lose (lose (lose rest)))))))))))))))) $
         again ! Nearer At t (next t l read steps is-e puts (same₁ ∙ same ∙ t .same-parts) (same₂ ∙ t .same-numbers) (same₃ ∙ t .same-words)) (nearer t l read steps pre)))))))))))))))
 
     ends-here : (t : St) → ltb 0 (t .s .go) ≡ false → Sq W (At t) (runs (𝓣 .C) (𝓣 .Λ) En body.turn-1 (anyQ (After t)))
     unfolding afterTurn
     ends-here t stop′ =
-        assigns ! (bin ! (lit ! tt) (load ! (from ! (fld ! refl (stop !))) (look-in ! 30 (sub ! 0 refl (whole !)))) tt) (from ! (stop !)) (init ! 24 refl (tt, tt)) $
-        rewrite ! 24 (λ (u : Bool). ‵ (fat fullShare tyBool (bs .1 .1 .1 .1 .1 .1 .1 .1 .1 .1 .0) 0 (vbool u))) stop′ refl $ leaves-loop ! (load ! (from ! (stop !)) (look ! 24 refl)) $
+        assigns ! (bin ! (lit ! tt) (load ! (from ! (fld ! refl (stop !))) (look-in ! 32 (sub ! 0 refl (whole !)))) tt) (from ! (stop !)) (init ! 24 refl (tt, tt)) $
+        rewrite ! 24 (λ (u : Bool). ‵ (fat fullShare tyBool (bs .1 .1 .1 .1 .1 .1 .1 .1 .1 .1 .1 .0) 0 (vbool u))) stop′ refl $ leaves-loop ! (load ! (from ! (stop !)) (look ! 24 refl)) $
         exec ! (𝓣 .C) (𝓣 .Λ) En body.t-3 (atRet En Post) $
-        assigns ! (of-opd ! (load ! (from ! (stop !)) (look ! 30 refl))) (from ! (stop !)) (init ! 44 refl (LL.lawful O.the-type O′.the-laws 𝓤 H A W .typed (t .s) _ (t .fits) .0)) $
-        returns ! (look ! 44 refl) $ move ! (locals 20 6) $ freed ! (full and full and full and full and full and full and full and full and bare and bare and full and bare and bare and bare and
+        assigns ! (of-opd ! (load ! (from ! (stop !)) (look ! 32 refl))) (from ! (stop !)) (init ! 46 refl (LL.lawful O.the-type O′.the-laws 𝓤 H A W .typed (t .s) _ (t .fits) .0)) $
+        returns ! (look ! 46 refl) $ move ! (locals 21 6) $ freed ! (full and full and full and full and full and full and full and full and bare and bare and bare and full and bare and bare and bare and
         bare and bare and bare and bare and bare and bare and end) $
         move ! (0 ∷ 2 ∷ 4 ∷ 1 ∷ 3 ∷ 5 ∷ []) $
         ends W f.ended (f.clauses 𝓤 H A mem run) stayed ((κs, qs, bounds, (n, (m, (parts, (numbers, (words, (begun, tt)))))), (vint w64 n ∷ [], (vint w64 m ∷ [], (slice-vals parts, (slice-vals numbers, (slice-vals words, (O′.lowered begun ∷ [], tt))))))), tt)
@@ -242,11 +243,11 @@ module _ {M : Type 1} (𝓤 : URA M) (H : Heap 𝓤) (A : Atoms 𝓤) (W : Given
       (λ κs qs bounds (n, (m, (parts, (numbers, (words, (begun, u)))))) g are. heard ! (SomeOf n m (λ g. DriveAsk g (parts .now) (numbers .now) (words .now) begun))
       (λ pre. keep ! (2 ∷ 6 ∷ 3 ∷ 7 ∷ 4 ∷ 8 ∷ []) $
       let typed = LL.lawful O.the-type O′.the-laws 𝓤 H A W .typed begun _ (are .1 .1 .1 .1 .1 .0) .0 in
-      allocated ! (λ bs. params1 ! $ pass1 ! (init ! 36 refl (tt, record { fits = are .0 .1 })) $ pass1 ! (init ! 34 refl (tt, record { fits = are .1 .0 .1 })) $
-      pass1 ! (init ! 32 refl (tt, (tt, (record { fits = are .1 .1 .0 .0 .1 .0 }, tt)))) $ pass1 ! (init ! 30 refl (tt, (tt, (record { fits = are .1 .1 .1 .0 .0 .1 .0 }, tt)))) $
-      pass1 ! (init ! 28 refl (tt, (tt, (record { fits = are .1 .1 .1 .1 .0 .0 .1 .0 }, tt)))) $ pass1 ! (init ! 26 refl typed) $ pass0 ! $
-      assigns ! (of-opd ! (load ! (from ! (stop !)) (look ! 26 refl))) (from ! (stop !)) (init ! 24 refl typed) $
-      move ! (40 ∷ 41 ∷ 42 ∷ 43 ∷ 44 ∷ 45 ∷ []) $ first ! $ blocks ! $
+      allocated ! (λ bs. params1 ! $ pass1 ! (init ! 38 refl (tt, record { fits = are .0 .1 })) $ pass1 ! (init ! 36 refl (tt, record { fits = are .1 .0 .1 })) $
+      pass1 ! (init ! 34 refl (tt, (tt, (record { fits = are .1 .1 .0 .0 .1 .0 }, tt)))) $ pass1 ! (init ! 32 refl (tt, (tt, (record { fits = are .1 .1 .1 .0 .0 .1 .0 }, tt)))) $
+      pass1 ! (init ! 30 refl (tt, (tt, (record { fits = are .1 .1 .1 .1 .0 .0 .1 .0 }, tt)))) $ pass1 ! (init ! 28 refl typed) $ pass0 ! $
+      assigns ! (of-opd ! (load ! (from ! (stop !)) (look ! 28 refl))) (from ! (stop !)) (init ! 26 refl typed) $
+      move ! (42 ∷ 43 ∷ 44 ∷ 45 ∷ 46 ∷ 47 ∷ []) $ first ! $ blocks ! $
       loops ! 𝓣 Nearer Nearer-wf (At known κs qs bounds n m parts numbers words begun are pre bs) (λ t. turns known κs qs bounds n m parts numbers words begun are pre bs t (ltb 0 (t .s .go)) refl)
       (record {
         s = begun;
