@@ -1,4 +1,5 @@
 #include "compare.h"
+#include "course.h"
 #include "plain.h"
 #include "tables.h"
 #include <stdio.h>
@@ -134,15 +135,20 @@ static size_t lay_all(const struct call *c) {
 }
 
 /*
- * Pivot kind 1 draws at least once for each component of two or more vertices, and at most 2 n times: within that the library decides,
- * and the chooser's state follows.
+ * The draws of pivot kind 1, and the state after them: as many as a course of the small table makes. Of a large one only the bounds are known, at least one for each component
+ * of two or more vertices and at most 2 n, and within them the library decides.
  */
 static void judge_draws(const struct call *c, enum place p) {
     uint32_t own, rings, largest;
     if (c->function != DECOMPOSE || c->kind != 1 || wanted != 0) return;
-    plain_summary(c->n, lent(LABEL, PLAIN), c->n, &own, &rings, &largest);
     size_t draws = *(size_t *)lent(COUNT_1, p);
-    if (draws < rings || draws > 2 * c->n) draws = rings;
+    if (c->n <= MOST_COURSE) {
+        struct graph g = {c->n, c->given[SOURCES].len, lent(SOURCES, PLAIN), lent(TARGETS, PLAIN)};
+        draws = course_draws(&g, c->method, c->order, c->state);
+    } else {
+        plain_summary(c->n, lent(LABEL, PLAIN), c->n, &own, &rings, &largest);
+        if (draws < rings || draws > 2 * c->n) draws = rings;
+    }
     *(size_t *)lent(COUNT_1, PLAIN) = draws;
     uint32_t *state = &((struct tinoweala_chooser *)lent(CHOOSER, PLAIN))->state;
     for (*state = c->state; draws > 0; draws--) *state = plain_next(*state);

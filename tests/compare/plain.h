@@ -1,6 +1,6 @@
 /*
- * The plain implementation: for each public function one of the same type, written from document 01 alone. The draws of pivot kind 1 are
- * promised between two bounds only: plain_decompose makes none, and who compares judges them.
+ * The plain implementation: for each public function one of the same type, written from document 01 alone. plain_decompose makes no draws:
+ * who compares judges those of pivot kind 1, on small tables by a course of its own (course.h).
  */
 #ifndef PLAIN_H
 #define PLAIN_H
