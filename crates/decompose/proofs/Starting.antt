@@ -22,7 +22,8 @@ use Rattle.split.specs.State.{ring, rings, Tables, Stage}
 use Rattle.parts.specs.Divide.{Blank}
 use Rattle.sweep.proofs.Choice.{arranged-placed}
 use Rattle.split.proofs.Rings.{ring-is}
-use Rattle.decompose.specs.Begin.{StartAsk, Started, listOf}
+use Rattle.graph.specs.Pivot.{listOf}
+use Rattle.decompose.specs.Begin.{StartAsk, Started}
 use Rattle.machine.specs.Machine.{base}
 
 least-same : (n : ℕ) (f h : ℕ → Bool) → ((i : ℕ) → f i ≡ h i) → least n f ≡ least n h

@@ -1,12 +1,11 @@
 -- How a decomposition begins: the whole collection is the first part, and pending.
 use Prim.Native.Nat.{ℕ, _+_, _≤_, _<_}
 use mathlib.Core.Path.{_≡_}
-use mathlib.Core.Bool.{cond}
-use mathlib.Core.List.{List, []}
+use mathlib.Core.List.{List}
 use lib.ListN.{length, getD}
-use lib.Dec.{eqb}
 use Rattle.graph.specs.Graph.{Graph, Valid, edges, graph}
 use Rattle.graph.specs.Limits.{mostVertices, mostEdges, numbersNeeded, wordsNeeded, Enough}
+use Rattle.graph.specs.Pivot.{listOf}
 use Rattle.memory.specs.Decomposer.{head, ord}
 use Rattle.parts.specs.Divide.{Blank}
 use Rattle.pivot.specs.Order.{Arranged}
@@ -17,10 +16,6 @@ use Rattle.machine.specs.Aim.{aimed}
 use Rattle.machine.specs.Machine.{base, Whole}
 use Rattle.machine.specs.Waits.{Waits}
 use Rattle.decompose.specs.Promise.{refusalOf}
-
--- the caller's list counts for kind 2 only
-abbrev pub listOf : ℕ → List ℕ → List ℕ
-listOf kind list = cond (eqb kind 2) list []
 
 pub record StartAsk (g : Graph) (num wor : List ℕ) : Type 0 where
   pub valid : Valid g

@@ -9,5 +9,6 @@ pub mod Checker
 pub mod Certificate
 pub mod Paths
 pub mod Pivot
+pub mod Apart
 pub mod Summary
 pub mod Refusal

@@ -2,7 +2,7 @@ use mathlib.Core.Path.{refl}
 use native.Mathlib.Omega.{arith}
 use Rattle.graph.specs.Graph.{graph}
 use Rattle.index.proofs.Asks.{valid-both}
-use Rattle.decompose.specs.Begin.{listOf}
+use Rattle.graph.specs.Pivot.{listOf}
 use Rattle.decompose.proofs.Starting.{started}
 use borrow.Author.Needs.{needs}
 use Rattle.decompose.proofs.begin.start.Statement.{statement}
