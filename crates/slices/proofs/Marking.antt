@@ -3,7 +3,7 @@ use Prim.Native.Nat.{ℕ, _+_, _-_, _≤_, _<_}
 use native.Mathlib.Omega.{arith}
 use native.Mathlib.Decide.{ℕ-discrete, decLt}
 use mathlib.Core.Path.{_≡_, refl, sym, _∙_}
-use mathlib.Core.Logic.{_⊎_, inl, inr, ⊎-elim}
+use mathlib.Core.Logic.{_⊎_, _↔_, inl, inr, ⊎-elim}
 use mathlib.Core.Bool.{false, _&&_}
 use mathlib.Core.List.{List}
 use lib.ListN.{getD, set, length-set}
@@ -24,13 +24,15 @@ module _ (n b r : ℕ) where
     each = λ v h. inl refl;
     keeps = λ v h o. o;
     done = d;
+    only = λ v h z o. absurd (o z);
+    marks = λ i h k. absurd (omega arith);
     moved = refl;
     low = λ j h. refl;
     high = λ j h. refl;
     long = refl;
   }
 
-  pub marked-more : (w w₁ w₂ : List ℕ) (e e₁ e₂ : ℕ) (D₁ D₂ D : Part) → ((v : ℕ) → v < n → D v → D₁ v ⊎ D₂ v)
+  pub marked-more : (w w₁ w₂ : List ℕ) (e e₁ e₂ : ℕ) (D₁ D₂ D : Part) → ((v : ℕ) → D v ↔ (D₁ v ⊎ D₂ v))
       → Marked n b r w e w₁ e₁ D₁ → Marked n b r w₁ e₁ w₂ e₂ D₂ → Marked n b r w e w₂ e₂ D
   marked-more w w₁ w₂ e e₁ e₂ D₁ D₂ D f x y = record {
     more = omega (arith, x .more, y .more);
@@ -41,7 +43,12 @@ module _ (n b r : ℕ) where
         (λ s. inr (s .0, y .keeps v h (s .1), (s .2 .0, s .2 .1, omega (arith, y .more, s .2 .2), y .front (s .2 .0) (s .2 .2) ∙ s .2 .3)))
         (x .each v h);
     keeps = λ v h o. y .keeps v h (x .keeps v h o);
-    done = λ v h d c. ⊎-elim (λ s. y .keeps v h (x .done v h s c)) (λ s. y .done v h s (x .low (b + v) (omega arith) ∙ c)) (f v h d);
+    done = λ v h d c. ⊎-elim (λ s. y .keeps v h (x .done v h s c)) (λ s. y .done v h s (x .low (b + v) (omega arith) ∙ c)) (f v .0 d);
+    only = λ v h z o. elim (ℕ-discrete (flag n b w₁ v) 0) as (λ _. D v) [ yes q ↦ f v .1 (inr (y .only v h q o)) | no q ↦ f v .1 (inl (x .only v h z q)) ];
+    marks = λ i h k. elim (decLt i e₁) as (λ _. flag n b w₂ (seed n b w₂ i) ≡ 0 → ⊥) [
+      | yes l ↦ rw (y .front i l) (y .keeps (seed n b w₁ i) (x .fresh i h l) (x .marks i h l))
+      | no l ↦ y .marks i (omega arith) k
+    ];
     moved = y .moved ∙ x .moved;
     low = λ j h. y .low j h ∙ x .low j h;
     high = λ j h. y .high j h ∙ x .high j h;
@@ -106,6 +113,8 @@ module _ (n b r : ℕ) where
       ];
       keeps = λ v h o z. elim (ℕ-discrete v y) as (λ _. ⊥) [ yes q ↦ set-flag (rw q at z) | no q ↦ o (sym (flag-same v h q) ∙ z) ];
       done = λ v h d c. rw d set-flag;
+      only = λ v h z o. elim (ℕ-discrete v y) as (λ _. v ≡ y) [ yes q ↦ q | no q ↦ absurd (o (flag-same v h q ∙ z)) ];
+      marks = λ i h k. let q : i ≡ e = omega arith in rw (q, listed) set-flag;
       moved = omega (arith, one-less);
       low = λ j h. else j (omega arith) (omega (arith, a .low));
       high = λ j h. else j (omega (arith, a .low)) (omega (arith, e-low));

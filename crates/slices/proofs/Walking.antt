@@ -3,14 +3,14 @@ use Prim.Native.Nat.{ℕ, suc, _+_, _-_, _≤_, _<_}
 use native.Mathlib.Omega.{arith}
 use native.Mathlib.Decide.{decLt}
 use mathlib.Core.Path.{_≡_, sym, ap, _∙_}
-use mathlib.Core.Logic.{_⊎_, inl, inr}
+use mathlib.Core.Logic.{_⊎_, _↔_, inl, inr, ⊎-elim}
 use mathlib.Core.List.{List}
 use lib.ListN.{length, getD}
-use Rattle.graph.specs.Graph.{Graph, Part, Edge, edges}
+use Rattle.graph.specs.Graph.{Graph, Part, edges}
 use Rattle.graph.specs.Limits.{mostVertices, mostEdges}
 use Rattle.graph.proofs.Chains.{edge-to-low}
 use Rattle.index.specs.Index.{first}
-use Rattle.index.proofs.Counts.{start-all, neighbour, found}
+use Rattle.index.proofs.Counts.{start-mono, start-all, neighbour, found}
 use Rattle.memory.specs.Decomposer.{que}
 use Rattle.split.specs.State.{Tables}
 use Rattle.split.proofs.Same.{tables-kept}
@@ -23,24 +23,43 @@ pub record Turn (g : Graph) (i : ℕ) (w : List ℕ) : Type 0 where
   pub here : g .n + 1 + i < length w
   pub low : getD w (g .n + 1 + i) 0 < g .n
 
+-- y stands in u's row before the place i
+abbrev pub Seen : Graph → ℕ → List ℕ → ℕ → Part
+Seen g u w i y = (j : ℕ) × (first g u ≤ j) × (j < i) × (getD w (g .n + 1 + j) 0 ≡ y)
+
 -- the neighbours of a vertex u in the forward index
 module _ {g : Graph} {b : ℕ} {w : List ℕ} (t : Tables g b w) {u : ℕ} (l : u < g .n) where
   pub first-at : getD w u 0 ≡ first g u
   first-at = ap (λ (j : ℕ). getD w j 0) (omega arith) ∙ t .fwd .offs u (omega arith)
 
-  end-at : getD w (u + 1) 0 ≡ first g (suc u)
+  pub end-at : getD w (u + 1) 0 ≡ first g (suc u)
   end-at = ap (λ (j : ℕ). getD w j 0) (omega arith) ∙ t .fwd .offs (suc u) l
 
   -- the code writes no 0 +
   same-place : (i : ℕ) → getD w (g .n + 1 + i) 0 ≡ getD w (0 + g .n + 1 + i) 0
   same-place i = ap (λ (j : ℕ). getD w j 0) (omega arith)
 
-  -- each edge that leaves u has a place in its row
-  row-all : (a v : ℕ) → Edge g a u v → (i : ℕ) × (first g u ≤ i) × (i < first g (suc u)) × (getD w (g .n + 1 + i) 0 ≡ v)
-  row-all a v y = let (i, h, k, q) = found g (t .fwd) a u v y in (i, h, k, same-place i ∙ q)
+  pub seen-none : (y : ℕ) → Seen g u w (getD w u 0) y → ⊥
+  seen-none y (j, p, q, _) = omega (arith, first-at)
+
+  pub seen-more : {i : ℕ} → first g u ≤ i → (y : ℕ) → Seen g u w (i + 1) y ↔ (Seen g u w i y ⊎ (getD w (g .n + 1 + i) 0 ≡ y))
+  seen-more {i} h y = (
+    λ (j, p, q, x). elim (decLt j i) as (λ _. Seen g u w i y ⊎ (getD w (g .n + 1 + i) 0 ≡ y)) [
+      | yes k ↦ inl (j, p, k, x)
+      | no k ↦ let s : i ≡ j = omega arith in inr (ap (λ (j : ℕ). getD w (g .n + 1 + j) 0) s ∙ x)
+    ],
+    λ d. ⊎-elim (λ (j, p, q, x). (j, p, omega arith, x)) (λ x. (i, h, omega arith, x)) d,
+  )
+
+  -- in its row stand the successors of u
+  pub seen-next : {i : ℕ} → i ≤ first g (suc u) → (y : ℕ) → Seen g u w i y → Next g u y
+  seen-next {i} h y (j, p, q, x) = let (a, d) = neighbour g (t .fwd) u j p (omega arith) in (a, rw (← x, same-place j) d)
+
+  pub seen-all : {i : ℕ} → getD w (u + 1) 0 ≤ i → (y : ℕ) → Next g u y → Seen g u w i y
+  seen-all {i} h y (a, d) = let (j, p, q, x) = found g (t .fwd) a u y d in (j, p, omega (arith, end-at), same-place j ∙ x)
 
   module _ {i : ℕ} (h : first g u ≤ i) (k : i < getD w (u + 1) 0) where
-    row-below : g .n + 1 + i < b
+    pub row-below : g .n + 1 + i < b
     row-below = omega (arith, t .below, end-at, start-all (g .counted) (g .src) (edges g) (suc u))
 
     row-low : getD w (g .n + 1 + i) 0 < g .n
@@ -57,16 +76,15 @@ module _ {g : Graph} {b : ℕ} {w : List ℕ} (t : Tables g b w) {u : ℕ} (l : 
 -- the neighbours of v before place i are marked
 pub record Going (g : Graph) (b r v e₀ : ℕ) (w₀ : List ℕ) (i : ℕ) (w : List ℕ) (e : ℕ) : Type 0 where
   pub after : first g v ≤ i
-  pub marked : Marked (g .n) b r w₀ e₀ w e (λ y. (j : ℕ) × (first g v ≤ j) × (j < i) × (getD w₀ (g .n + 1 + j) 0 ≡ y))
+  pub before : i ≤ first g (suc v)
+  pub marked : Marked (g .n) b r w₀ e₀ w e (Seen g v w₀ i)
 
 module _ {g : Graph} {b r v e₀ : ℕ} {w₀ : List ℕ} (a : NextAsk g b r v e₀ w₀) where
-  abbrev Seen : ℕ → Part
-  Seen i y = (j : ℕ) × (first g v ≤ j) × (j < i) × (getD w₀ (g .n + 1 + j) 0 ≡ y)
-
   pub next-none : Going g b r v e₀ w₀ (getD w₀ v 0) w₀ e₀
   next-none = let f = first-at (a .tables) (a .low) in record {
     after = omega (arith, f);
-    marked = marked-none (g .n) b r w₀ e₀ _ (λ y h d. absurd (omega (arith, f, d .1, d .2)));
+    before = omega (arith, f, start-mono (g .counted) (g .src) (edges g) v (suc v) (omega arith));
+    marked = marked-none (g .n) b r w₀ e₀ _ (λ y h d. absurd (seen-none (a .tables) (a .low) y d));
   }
 
   module _ {i : ℕ} {w : List ℕ} {e : ℕ} (z : Going g b r v e₀ w₀ i w e) (l : i < getD w₀ (v + 1) 0) where
@@ -87,11 +105,12 @@ module _ {g : Graph} {b r v e₀ : ℕ} {w₀ : List ℕ} (a : NextAsk g b r v e
     pub next-step : {w' : List ℕ} {e' : ℕ} → Mark (g .n) b (getD w (g .n + 1 + i) 0) r e w w' e' → Going g b r v e₀ w₀ (i + 1) w' e'
     next-step {w'} {e'} m = record {
       after = omega (arith, z .after);
-      marked = marked-more (g .n) b r w₀ w w' e₀ e e' (Seen i) (λ y. y ≡ getD w (g .n + 1 + i) 0) (Seen (i + 1))
-          (λ y h (j, p, q, x). elim (decLt j i) as (λ _. Seen i y ⊎ (y ≡ getD w (g .n + 1 + i) 0)) [
-            | yes k ↦ inl (j, p, k, x)
-            | no k ↦ let s : j ≡ i = omega arith in inr (sym x ∙ ap (λ (j : ℕ). getD w₀ (g .n + 1 + j) 0) s ∙ sym same)
-          ])
+      before = omega (arith, l, end-at (a .tables) (a .low));
+      marked = marked-more (g .n) b r w₀ w w' e₀ e e' (Seen g v w₀ i) (λ y. y ≡ getD w (g .n + 1 + i) 0) (Seen g v w₀ (i + 1))
+          (λ y. let (f, f') = seen-more (a .tables) (a .low) (z .after) y in (
+            λ d. ⊎-elim (λ q. inl q) (λ q. inr (sym q ∙ sym same)) (f d),
+            λ d. f' (⊎-elim (λ q. inl q) (λ q. inr (sym same ∙ sym q)) d),
+          ))
           (z .marked) (mark-step (g .n) b r w e (getD w (g .n + 1 + i) 0) next-ask w' e' m);
     }
 
@@ -102,7 +121,9 @@ module _ {g : Graph} {b r v e₀ : ℕ} {w₀ : List ℕ} (a : NextAsk g b r v e
     fresh = m .fresh;
     each = m .each;
     keeps = m .keeps;
-    done = λ y h (x, d). let (j, p, q, s) = row-all (a .tables) (a .low) x y d in m .done y h (j, p, omega (arith, q, l, end-at (a .tables) (a .low)), s);
+    done = λ y h d. m .done y h (seen-all (a .tables) (a .low) l y d);
+    only = λ y h c o. seen-next (a .tables) (a .low) (z .before) y (m .only y h c o);
+    marks = m .marks;
     moved = m .moved;
     low = m .low;
     high = m .high;
@@ -128,8 +149,11 @@ module _ {g : Graph} {b r k e₀ : ℕ} {w₀ : List ℕ} (a : AllAsk g b r k e�
 
     pub all-step : {w' : List ℕ} {e' : ℕ} → Marked (g .n) b r w e w' e' (Next g (que (g .n) b w i)) → Marked (g .n) b r w₀ e₀ w' e' (Behind g b w₀ (i + 1))
     all-step {w'} {e'} m = marked-more (g .n) b r w₀ w w' e₀ e e' (Behind g b w₀ i) (Next g (que (g .n) b w i)) (Behind g b w₀ (i + 1))
-        (λ y h (j, p, x). elim (decLt j i) as (λ _. Behind g b w₀ i y ⊎ Next g (que (g .n) b w i) y) [
-          | yes q ↦ inl (j, q, x)
-          | no q ↦ let s : i ≡ j = omega arith in inr (rw (same-queue, s) x)
-        ])
+        (λ y. (
+          λ (j, p, x). elim (decLt j i) as (λ _. Behind g b w₀ i y ⊎ Next g (que (g .n) b w i) y) [
+            | yes q ↦ inl (j, q, x)
+            | no q ↦ let s : i ≡ j = omega arith in inr (rw (same-queue, s) x)
+          ],
+          λ d. ⊎-elim (λ (j, p, x). (j, omega arith, x)) (λ x. (i, omega arith, rw same-queue at x)) d,
+        ))
         z m

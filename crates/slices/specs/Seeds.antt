@@ -19,6 +19,10 @@ Rest n b r w v = (v < n) × (col b w v ≡ r)
 abbrev pub Seeds : ℕ → ℕ → ℕ → List ℕ → Part
 Seeds n b r w v = (v < n) × (col b w v ≡ r) × (flag n b w v ≡ 0 → ⊥)
 
+-- v stands in the list of seeds, from place l up to e
+abbrev pub Listed : ℕ → ℕ → List ℕ → ℕ → ℕ → Part
+Listed n b w l e v = (i : ℕ) × (l ≤ i) × (i < e) × (seed n b w i ≡ v)
+
 -- how many of what remains never were seeds
 abbrev pub unmarked : ℕ → ℕ → ℕ → List ℕ → ℕ
 unmarked n b r w = many (λ v. eqb (col b w v) r && eqb (flag n b w v) 0) n
@@ -35,7 +39,7 @@ Mark n b y r e w w' e' =
     ((col b w y ≡ r) × (flag n b w y ≡ 0) × (w' ≡ set (set w (marksAt n b + y) 1) (seedsAt n b + e) y) × (e' ≡ e + 1))
     ⊎ ((col b w y ≡ r → flag n b w y ≡ 0 → ⊥) × (w' ≡ w) × (e' ≡ e))
 
--- The list of seeds grew from e to e'; of what remains, all of which Done holds are marked.
+-- The list of seeds grew from e to e'; of what remains, all of which Done holds are marked, and no others were.
 pub record Marked (n b r : ℕ) (w : List ℕ) (e : ℕ) (w' : List ℕ) (e' : ℕ) (Done : Part) : Type 0 where
   pub more : e ≤ e'
   pub front : (i : ℕ) → i < e → seed n b w' i ≡ seed n b w i
@@ -44,6 +48,8 @@ pub record Marked (n b r : ℕ) (w : List ℕ) (e : ℕ) (w' : List ℕ) (e' : �
       ⊎ ((col b w v ≡ r) × (flag n b w' v ≡ 0 → ⊥) × ((i : ℕ) × (e ≤ i) × (i < e') × (seed n b w' i ≡ v)))
   pub keeps : (v : ℕ) → v < n → (flag n b w v ≡ 0 → ⊥) → flag n b w' v ≡ 0 → ⊥
   pub done : (v : ℕ) → v < n → Done v → col b w v ≡ r → flag n b w' v ≡ 0 → ⊥
+  pub only : (v : ℕ) → v < n → flag n b w v ≡ 0 → (flag n b w' v ≡ 0 → ⊥) → Done v
+  pub marks : (i : ℕ) → e ≤ i → i < e' → flag n b w' (seed n b w' i) ≡ 0 → ⊥
   pub moved : e' + unmarked n b r w' ≡ e + unmarked n b r w
   pub low : (j : ℕ) → j < marksAt n b → getD w' j 0 ≡ getD w j 0
   pub high : (j : ℕ) → orderAt n b ≤ j → getD w' j 0 ≡ getD w j 0
