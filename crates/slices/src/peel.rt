@@ -1,6 +1,8 @@
 // Peeling: a seed that no edge of what remains enters is a component alone and goes; its successors become seeds.
 ghost use Rattle.graph.specs.Arrows.{SomeOf, EveryOf};
-ghost use Rattle.slices.specs.Peel.{PeelAsk, Peeled, DrainAsk, PassAsk};
+ghost use Rattle.graph.specs.Parts.{only};
+ghost use Rattle.slices.specs.Seeds.{Next, Listed};
+ghost use Rattle.slices.specs.Peel.{PeelAsk, Peeled, Settled, Stuck, DrainAsk, PassAsk, PeeledAll};
 use crate::seeds;
 use memory::decomposer::ENTERING;
 use memory::decomposer::SEEDS;
@@ -23,8 +25,8 @@ fn settle(
     e: usize,
     k: usize,
 ) -> Count
-    requires { ⌜ SomeOf n m (λ g. PeelAsk g b r v e k (now w)) ⌝ }
-    ensures { λ c. ⌜ EveryOf n m (λ g. PeelAsk g b r v e k (now (w .entry)) → Peeled g b r (now (w .entry)) e k (now (w .exit)) (c .seeds) (c .gone)) ⌝ }
+    requires { ⌜ SomeOf n m (λ g. PeelAsk g b r v e k (now w) (only v)) ⌝ }
+    ensures { λ c. ⌜ EveryOf n m (λ g. PeelAsk g b r v e k (now (w .entry)) (only v) → Settled g b r (now (w .entry)) e k (now (w .exit)) (c .seeds) (c .gone) (only v)) ⌝ }
 {
     if w[b + v] != r {
         return Count { seeds: e, gone: k };
@@ -52,8 +54,8 @@ fn settle_next(
     e0: usize,
     k0: usize,
 ) -> Count
-    requires { ⌜ SomeOf n m (λ g. PeelAsk g b r u e0 k0 (now w)) ⌝ }
-    ensures { λ c. ⌜ EveryOf n m (λ g. PeelAsk g b r u e0 k0 (now (w .entry)) → Peeled g b r (now (w .entry)) e0 k0 (now (w .exit)) (c .seeds) (c .gone)) ⌝ }
+    requires { ⌜ SomeOf n m (λ g. PeelAsk g b r u e0 k0 (now w) (Next g u)) ⌝ }
+    ensures { λ c. ⌜ EveryOf n m (λ g. PeelAsk g b r u e0 k0 (now (w .entry)) (Next g u) → Settled g b r (now (w .entry)) e0 k0 (now (w .exit)) (c .seeds) (c .gone) (Next g u)) ⌝ }
 {
     let mut i = w[u] as usize;
     let t = w[u + 1] as usize;
@@ -72,7 +74,7 @@ fn settle_next(
 // The successors of all that has gone are looked at again, until no more goes. How many seeds are listed.
 fn drain(n: usize, m: usize, w: &mut [u32], b: usize, r: u32, e0: usize, k0: usize) -> Count
     requires { ⌜ SomeOf n m (λ g. DrainAsk g b r e0 k0 (now w)) ⌝ }
-    ensures { λ c. ⌜ EveryOf n m (λ g. DrainAsk g b r e0 k0 (now (w .entry)) → Peeled g b r (now (w .entry)) e0 k0 (now (w .exit)) (c .seeds) (c .gone)) ⌝ }
+    ensures { λ c. ⌜ EveryOf n m (λ g. DrainAsk g b r e0 k0 (now (w .entry)) → Peeled g b r (now (w .entry)) e0 k0 (now (w .exit)) (c .seeds) (c .gone) × Stuck g b r (now (w .exit))) ⌝ }
 {
     let mut h = 0;
     let mut e = e0;
@@ -90,7 +92,7 @@ fn drain(n: usize, m: usize, w: &mut [u32], b: usize, r: u32, e0: usize, k0: usi
 // The seeds at the places l .. e0 - 1 of the list are looked at once.
 fn pass(n: usize, m: usize, w: &mut [u32], b: usize, r: u32, l: usize, e0: usize) -> Count
     requires { ⌜ SomeOf n m (λ g. PassAsk g b r l e0 (now w)) ⌝ }
-    ensures { λ c. ⌜ EveryOf n m (λ g. PassAsk g b r l e0 (now (w .entry)) → Peeled g b r (now (w .entry)) e0 0 (now (w .exit)) (c .seeds) (c .gone)) ⌝ }
+    ensures { λ c. ⌜ EveryOf n m (λ g. PassAsk g b r l e0 (now (w .entry)) → Settled g b r (now (w .entry)) e0 0 (now (w .exit)) (c .seeds) (c .gone) (Listed n b (now (w .entry)) l e0)) ⌝ }
 {
     let mut i = l;
     let mut e = e0;
@@ -108,7 +110,7 @@ fn pass(n: usize, m: usize, w: &mut [u32], b: usize, r: u32, l: usize, e0: usize
 // Seeds go until none can. How many seeds are listed.
 pub fn peel(n: usize, m: usize, w: &mut [u32], b: usize, r: u32, l: usize, e: usize) -> Count
     requires { ⌜ SomeOf n m (λ g. PassAsk g b r l e (now w)) ⌝ }
-    ensures { λ c. ⌜ EveryOf n m (λ g. PassAsk g b r l e (now (w .entry)) → Peeled g b r (now (w .entry)) e 0 (now (w .exit)) (c .seeds) (c .gone)) ⌝ }
+    ensures { λ c. ⌜ EveryOf n m (λ g. PassAsk g b r l e (now (w .entry)) → PeeledAll g b r (now (w .entry)) e (now (w .exit)) (c .seeds) (c .gone)) ⌝ }
 {
     let c = pass(n, m, w, b, r, l, e);
     drain(n, m, w, b, r, c.seeds, c.gone)

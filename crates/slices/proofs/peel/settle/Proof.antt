@@ -6,7 +6,7 @@ use Rattle.graph.specs.Graph.{rev}
 use Rattle.graph.specs.Arrows.{on, sized}
 use Rattle.prune.proofs.Walks.{advance-ask}
 use Rattle.slices.specs.Peel.{into}
-use Rattle.slices.proofs.Peeling.{peeled-none, peel-stay, peel-long, k-low, peel-next, peel-go}
+use Rattle.slices.proofs.Settling.{settle-other, settle-stay, peel-long, k-low, peel-next, settle-go}
 use Rattle.slices.proofs.peel.settle.Statement.{statement}
 use Rattle.slices.proofs.peel.settle.Tie as tie
 
@@ -49,14 +49,14 @@ same-length-2 c =
     let l = (live (advanced (goes (c .before .before)))) .if1 .left in
     let z = (advanced (goes (c .before .before))) .advance .ensures in
     let o = (goes (c .before .before)) .if2 .left in
-    peel-go (s .pre .1) l z o (c .before .before .mark-next .ensures (sized (s .args .m) (s .pre .0)) (peel-next (s .pre .1) l z o)) .inside .long
+    settle-go (s .pre .1) l z o (c .before .before .mark-next .ensures (sized (s .args .m) (s .pre .0)) (peel-next (s .pre .1) l z o)) .peeled .inside .long
 
 returns-3 : tie.Need-returns-3
 returns-3 c =
     let l = (live (advanced (goes (c .before .before)))) .if1 .left in
     let z = (advanced (goes (c .before .before))) .advance .ensures in
     let o = (goes (c .before .before)) .if2 .left in
-    λ g a. peel-go a l z o (c .before .before .mark-next .ensures (sized ((begins (live (advanced (goes (c .before .before))))) .args .m) g) (peel-next a l z o))
+    λ g a. settle-go a l z o (c .before .before .mark-next .ensures (sized ((begins (live (advanced (goes (c .before .before))))) .args .m) g) (peel-next a l z o))
 
 pub settle-spec : {M : Type 1} → statement M
 settle-spec =
@@ -65,7 +65,7 @@ settle-spec =
     (λ c. search needs)
     (λ c. search needs)
     (λ c. search needs)
-    (λ c. λ g a. peeled-none (a .standing))
+    (λ c. λ g a. settle-other a (c .if1 .taken))
     (λ c. search needs)
     (λ c. search needs)
     (λ c. search needs)
@@ -73,7 +73,7 @@ settle-spec =
     (λ c. search needs)
     advance-requires
     (λ c. search needs)
-    (λ c. λ g a. peel-stay a ((live (c .before .before .before)) .if1 .left) (c .before .before .before .advance .ensures))
+    (λ c. λ g a. settle-stay a ((live (c .before .before .before)) .if1 .left) (c .before .before .before .advance .ensures) (c .if2 .taken))
     (λ c. search needs)
     (λ c. search needs)
     (λ c. search needs)

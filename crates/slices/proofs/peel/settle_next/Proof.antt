@@ -5,15 +5,16 @@ use mathlib.Core.Path.{_≡_, refl}
 use lib.ListN.{length}
 use Rattle.graph.specs.Arrows.{on, sized, EveryOf}
 use Rattle.index.specs.Index.{first}
-use Rattle.slices.specs.Peel.{PeelAsk, Peeled}
-use Rattle.slices.proofs.Walking.{Turn}
-use Rattle.slices.proofs.Peeling.{settle-none, settle-turn, settle-ask, settle-step}
+use Rattle.slices.specs.Seeds.{Next}
+use Rattle.slices.specs.Peel.{PeelAsk, Settled}
+use Rattle.slices.proofs.Walking.{Turn, Seen}
+use Rattle.slices.proofs.Draining.{settle-none, settle-turn, settle-ask, settle-step, settle-all}
 use Rattle.slices.proofs.peel.settle_next.Statement.{statement}
 use Rattle.slices.proofs.peel.settle_next.Tie as tie
 
 abbrev Inv-loop : tie.InvT-loop
 Inv-loop n m w₀ b u r e0 k0 i₀ t e₀ k₀ w i e k =
-    (length w ≡ length w₀) × EveryOf n m (λ g. PeelAsk g b r u e0 k0 w₀ → (first g u ≤ i) × Peeled g b r w₀ e0 k0 w e k)
+    (length w ≡ length w₀) × EveryOf n m (λ g. PeelAsk g b r u e0 k0 w₀ (Next g u) → (first g u ≤ i) × Settled g b r w₀ e0 k0 w e k (Seen g u w₀ i))
 
 abbrev μ-loop : tie.MeasureT-loop
 μ-loop n m w₀ b u r e0 k0 i₀ t e₀ k₀ w i e k = t - i
@@ -58,4 +59,4 @@ settle-next-spec =
     (λ c. omega (arith, (inside (c .before .before)) .loop-test .taken))
     loop-again
     (λ c. c .before .loop .inv .0)
-    (λ c. λ g a. c .before .loop .inv .1 g a .1))
+    (λ c. λ g a. settle-all a (c .before .loop .inv .1 g a .1) (c .loop-test .left)))
