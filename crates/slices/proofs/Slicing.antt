@@ -2,6 +2,7 @@
 use Prim.Native.Nat.{ℕ, zero, suc, _+_, _-_, _*_, _≤_, _<_}
 use native.Mathlib.Omega.{arith}
 use native.Mathlib.Decide.{decLt}
+use native.Mathlib.Numerals.{add-one}
 use mathlib.Core.Path.{_≡_, refl, sym, ap, _∙_}
 use mathlib.Core.Logic.{_⊎_, inl, inr, ⊎-elim}
 use mathlib.Core.Bool.{Bool, true, false, cond, _&&_}
@@ -10,6 +11,8 @@ use lib.ListN.{getD}
 use lib.Dec.{T, eqb, eqb→eq}
 use Rattle.graph.specs.Graph.{Graph, Valid, rev, stay, edges}
 use Rattle.graph.specs.Parts.{Fwd, Alone, only}
+use Rattle.graph.specs.Apart.{In, Obf}
+use Rattle.graph.specs.Apart as apart
 use Rattle.graph.specs.Numbers.{many}
 use Rattle.graph.proofs.Tests.{and-l, eq-T}
 use Rattle.graph.proofs.Counts.{many-le, many-mono}
@@ -26,16 +29,19 @@ use Rattle.paint.proofs.Components.{fwd-low, search-whole}
 use Rattle.prune.specs.Cursor.{cur, Side}
 use Rattle.split.specs.State.{Tables, Owned, held}
 use Rattle.split.proofs.Same.{tables-kept, top-le}
-use Rattle.slices.specs.Seeds.{Rest, Seeds, unmarked, MarkAsk, Mark, Marked}
-use Rattle.slices.specs.Peel.{into, Peeled, PassAsk}
-use Rattle.slices.specs.Slice.{Listed, CutAsk, Cut, CutsAsk, Cuts, Done, SliceAsk, Sliced}
+use Rattle.slices.specs.Seeds.{Rest, Seeds, Listed, unmarked, MarkAsk, Mark, Marked}
+use Rattle.slices.specs.Peel.{into, PeeledAll, PassAsk}
+use Rattle.slices.specs.Slice.{CutAsk, Cut, CutsAsk, Cuts, Done, SliceAsk, Sliced}
 use Rattle.slices.proofs.Marking.{mark-step}
+use Rattle.slices.proofs.Cutting.{slice-went}
+use Rattle.slices.proofs.Steps.{slicing-then}
 
 -- THE LOOP
 module _ {g : Graph} {b r top : ℕ} {w : List ℕ} (a : CutsAsk g b r top w) where
   pub cuts-none : Cuts g b r top w 0 1 top w
   cuts-none = record {
     listing = a .listing;
+    steps = apart.begins (λ v h. refl) (λ v h. refl);
     went = λ v h. inl refl;
     kept = λ v h o. (refl, refl);
     least = omega arith;
@@ -46,30 +52,35 @@ module _ {g : Graph} {b r top : ℕ} {w : List ℕ} (a : CutsAsk g b r top w) wh
 
   module _ {l e s : ℕ} {x : List ℕ} (z : Cuts g b r top w l e s x) (h : l < e) where
     pub cuts-pass : PassAsk g b r l e x
-    cuts-pass = let y = z .listing in record { standing = y .standing; order = y .order; room = y .room; member = y .member }
+    cuts-pass = let y = z .listing in record { standing = y .standing; order = y .order; room = y .room; member = y .member; marks = y .marks; listed = y .listed }
 
     pub cuts-few : e ≤ g .n
     cuts-few = omega (arith, z .listing .room)
 
-    module _ {x₁ : List ℕ} {m k : ℕ} (p : Peeled g b r x e 0 x₁ m k) where
+    module _ {x₁ : List ℕ} {m k : ℕ} (p : PeeledAll g b r x e x₁ m k) where
       rest₁ : (v : ℕ) → v < g .n → col b x₁ v ≡ r → col b x v ≡ r
-      rest₁ v i c = ⊎-elim (λ t. sym t ∙ c) (λ t. t .0) (p .went v i)
+      rest₁ v i c = ⊎-elim (λ t. sym t ∙ c) (λ t. t .0) (p .peeled .went v i)
 
       listed₁ : (v : ℕ) → Seeds (g .n) b r x₁ v → Listed (g .n) b x₁ l m v
       listed₁ v (i, c, o) = ⊎-elim
-          (λ t. let (j, d, q, f) = z .listing .listed v (i, rest₁ v i c, λ y. o (t ∙ y)) in (j, d, omega (arith, p .more, q), p .front j q ∙ f))
+          (λ t. let (j, d, q, f) = z .listing .listed v (i, rest₁ v i c, λ y. o (t ∙ y)) in (j, d, omega (arith, p .peeled .more, q), p .peeled .front j q ∙ f))
           (λ (j, d, q, f). (j, omega (arith, d, h), q, f))
-          (p .each v i)
+          (p .peeled .each v i)
 
       pub cuts-cut : CutAsk g b r s l m x₁
       cuts-cut = record {
         listing = record {
-          standing = p .standing;
-          order = omega (arith, p .more, h);
-          room = omega (arith, p .room, z .listing .room);
-          member = λ i q. elim (decLt i e) as (λ _. seed (g .n) b x₁ i < g .n) [ yes d ↦ rw (p .front i d) (z .listing .member i d) | no d ↦ p .fresh i (omega arith) q ];
+          standing = p .peeled .standing;
+          order = omega (arith, p .peeled .more, h);
+          room = omega (arith, p .peeled .room, z .listing .room);
+          member = λ i q. elim (decLt i e) as (λ _. seed (g .n) b x₁ i < g .n) [ yes d ↦ rw (p .peeled .front i d) (z .listing .member i d) | no d ↦ p .peeled .fresh i (omega arith) q ];
           listed = listed₁;
+          marks = λ i q. elim (decLt i e) as (λ _. flag (g .n) b x₁ (seed (g .n) b x₁ i) ≡ 0 → ⊥) [
+            | yes d ↦ rw (p .peeled .front i d) (p .peeled .keeps (seed (g .n) b x i) (z .listing .member i d) (z .listing .marks i d))
+            | no d ↦ p .peeled .marks i (omega arith) q
+          ];
         };
+        stuck = p .stuck;
         part = omega (arith, a .part, z .least);
         under = omega (arith, z .most, cuts-few, h, a .under);
       }
@@ -77,30 +88,31 @@ module _ {g : Graph} {b r top : ℕ} {w : List ℕ} (a : CutsAsk g b r top w) wh
       pub cuts-step : {x₂ : List ℕ} {e' : ℕ} → Cut g b r s x₁ m x₂ e' → Cuts g b r top w m e' (s + 1) x₂
       cuts-step {x₂} {e'} d = record {
         listing = d .listing;
+        steps = rw (add-one s) (apart.cuts (slicing-then (z .steps) (p .peeled .steps s)) (d .slice));
         went = λ v i. ⊎-elim
             (λ t. ⊎-elim
-            (λ y. ⊎-elim (λ u. inl (u ∙ y ∙ t)) (λ u. inr (sym t ∙ sym y ∙ u .0, inr (omega (arith, u .1, z .least), omega (arith, u .1)))) (d .went v i))
-            (λ y. inr (sym t ∙ y .0, inl (⊎-elim (λ u. u ∙ y .1) (λ u. absurd (omega (arith, u .0, y .1, i, p .standing .over))) (d .went v i), y .2)))
-            (p .went v i))
+            (λ y. ⊎-elim (λ u. inl (u ∙ y ∙ t)) (λ u. inr (sym t ∙ sym y ∙ u .0, inr (omega (arith, u .1, z .least), omega (arith, u .1)))) (slice-went (d .slice) v i))
+            (λ y. inr (sym t ∙ y .0, inl (⊎-elim (λ u. u ∙ y .1) (λ u. absurd (omega (arith, u .0, y .1, i, p .peeled .standing .over))) (slice-went (d .slice) v i), y .2)))
+            (p .peeled .went v i))
             (λ t. let stays : (col b x v ≡ r → ⊥) → col b x₂ v ≡ col b x v =
-            λ o. ⊎-elim (λ y. ⊎-elim (λ u. u ∙ y) (λ u. absurd (o (sym y ∙ u .0))) (d .went v i)) (λ y. absurd (o (y .0))) (p .went v i) in
+            λ o. ⊎-elim (λ y. ⊎-elim (λ u. u ∙ y) (λ u. absurd (o (sym y ∙ u .0))) (slice-went (d .slice) v i)) (λ y. absurd (o (y .0))) (p .peeled .went v i) in
             inr (
               t .0,
               ⊎-elim
-                  (λ y. inl (stays (λ q. omega (arith, q, y .0, i, p .standing .over)) ∙ y .0, y .1))
+                  (λ y. inl (stays (λ q. omega (arith, q, y .0, i, p .peeled .standing .over)) ∙ y .0, y .1))
                   (λ y. let q = stays (λ q. omega (arith, q, y .1, z .most, cuts-few, h, a .under)) in inr (omega (arith, q, y .0), omega (arith, q, y .1))) (t .1),
             ))
             (z .went v i);
         kept = λ v i o.
             let f = z .kept v i o in
             let o₁ : col b x v ≡ r → ⊥ = λ q. ⊎-elim (λ t. o (sym t ∙ q)) (λ t. o (t .0)) (z .went v i) in
-            let f₁ = p .kept v i o₁ in
+            let f₁ = p .peeled .kept v i o₁ in
             let f₂ = d .kept v i (λ q. o₁ (rest₁ v i q)) in
             (f₂ .0 ∙ f₁ .0 ∙ f .0, f₂ .1 ∙ f₁ .1 ∙ f .1);
         least = omega (arith, z .least);
-        most = omega (arith, z .most, p .more, h);
-        room = omega (arith, d .room, p .room, z .room);
-        inside = touched-more (z .inside) (touched-more (p .inside) (d .inside));
+        most = omega (arith, z .most, p .peeled .more, h);
+        room = omega (arith, d .room, p .peeled .room, z .room);
+        inside = touched-more (z .inside) (touched-more (p .peeled .inside) (d .inside));
       }
 
   pub cuts-all : {l e s : ℕ} {x : List ℕ} → Cuts g b r top w l e s x → e ≤ l → Done g b r top w x s
@@ -156,20 +168,20 @@ module _ {g : Graph} {b p q top r : ℕ} {w : List ℕ} (a : SliceAsk g b p q to
     low-p : (v : ℕ) → only p v → v < g .n
     low-p v e = rw (← e) (a .ask .start)
 
-    hit-F : (v : ℕ) → Hit g (paint q r q r) b (only p) w v → Fwd g (λ v. (v < g .n) × (col b w v ≡ q)) (only p) v
+    hit-F : (v : ℕ) → Hit g (paint q r q r) b (only p) w v → Fwd g (In g (col b w) q) (only p) v
     hit-F = fwd-low ok low-p (λ v h o. (h, ⊎-elim (λ t. t) (λ t. t) (paint-opens q r q r (col b w v) o)))
 
-    F-hit : (v : ℕ) → Fwd g (λ v. (v < g .n) × (col b w v ≡ q)) (only p) v → Hit g (paint q r q r) b (only p) w v
+    F-hit : (v : ℕ) → Fwd g (In g (col b w) q) (only p) v → Hit g (paint q r q r) b (only p) w v
     F-hit = fwd-low ok low-p (λ v h o t. omega (arith, q-r, ap (paint q r q r) (o .1) ∙ paint-first q r q r, o .1, t))
 
-    one : (v : ℕ) → v < g .n → (Fwd g (λ v. (v < g .n) × (col b w v ≡ q)) (only p) v × (col b w v ≡ q) × (col b w₁ v ≡ r))
-        ⊎ ((Fwd g (λ v. (v < g .n) × (col b w v ≡ q)) (only p) v → ⊥) × (col b w₁ v ≡ col b w v))
+    one : (v : ℕ) → v < g .n → (Fwd g (In g (col b w) q) (only p) v × (col b w v ≡ q) × (col b w₁ v ≡ r))
+        ⊎ ((Fwd g (In g (col b w) q) (only p) v → ⊥) × (col b w₁ v ≡ col b w v))
     one v h = ⊎-elim
         (λ t. let y = hit-F v (t .0) in let c = chain-last (y .2 .1) .1 in inl (y, c, t .1 ∙ ap (paint q r q r) c ∙ paint-first q r q r))
         (λ t. inr (λ y. t .0 (F-hit v y), t .1))
         (f .each v h)
 
-    was : (v : ℕ) → v < g .n → col b w₁ v ≡ r → Fwd g (λ v. (v < g .n) × (col b w v ≡ q)) (only p) v × (col b w v ≡ q)
+    was : (v : ℕ) → v < g .n → col b w₁ v ≡ r → Fwd g (In g (col b w) q) (only p) v × (col b w v ≡ q)
     was v h e = ⊎-elim (λ t. (t .0, t .1)) (λ t. absurd (omega (arith, t .1, e, under-r v h))) (one v h)
 
     p-in : col b w₁ p ≡ r
@@ -179,8 +191,9 @@ module _ {g : Graph} {b p q top r : ℕ} {w : List ℕ} (a : SliceAsk g b p q to
     same j (inl h) = f .kept .low j h
     same j (inr h) = f .kept .high j (omega arith)
 
-    flag-p : flag (g .n) b w₁ p ≡ 0
-    flag-p = same (marksAt (g .n) b + p) (inr (omega arith)) ∙ a .untouched p (a .ask .start) (a .ask .live) .0
+    -- nothing of F was marked
+    flag₁ : (v : ℕ) → v < g .n → col b w₁ v ≡ r → flag (g .n) b w₁ v ≡ 0
+    flag₁ v h c = same (marksAt (g .n) b + v) (inr (omega arith)) ∙ a .untouched v h (was v h c .1) .0
 
     room₁ : unmarked (g .n) b r w₁ + held (g .n) b q w₁ ≤ held (g .n) b q w
     room₁ = many-apart (λ u. eqb (col b w₁ u) r && eqb (flag (g .n) b w₁ u) 0) (λ u. eqb (col b w₁ u) q) (λ u. eqb (col b w u) q) (g .n)
@@ -200,7 +213,7 @@ module _ {g : Graph} {b p q top r : ℕ} {w : List ℕ} (a : SliceAsk g b p q to
       m = mark-step (g .n) b r w₁ 0 p slice-mark w₂ e₁ mk
 
       e-one : e₁ ≡ 1
-      e-one = ⊎-elim (λ t. t .3) (λ t. absurd (t .0 p-in flag-p)) mk
+      e-one = ⊎-elim (λ t. t .3) (λ t. absurd (t .0 p-in (flag₁ p (a .ask .start) p-in))) mk
 
       col₂ : (v : ℕ) → v < g .n → col b w₂ v ≡ col b w₁ v
       col₂ v h = m .low (b + v) (omega arith)
@@ -241,9 +254,9 @@ module _ {g : Graph} {b p q top r : ℕ} {w : List ℕ} (a : SliceAsk g b p q to
       cover₂ : (v : ℕ) → Rest (g .n) b r w₂ v → Fwd g (Rest (g .n) b r w₂) (Seeds (g .n) b r w₂) v
       cover₂ v (h, c) =
           let (x, i, t) = fwd-covers v (was v h (sym (col₂ v h) ∙ c) .0) in
-          let there : (u : ℕ) → Fwd g (λ v. (v < g .n) × (col b w v ≡ q)) (only p) u → Rest (g .n) b r w₂ u =
+          let there : (u : ℕ) → Fwd g (In g (col b w) q) (only p) u → Rest (g .n) b r w₂ u =
           λ u y. let hu = chain-last (y .2 .1) .0 in (hu, col₂ u hu ∙ ⊎-elim (λ d. d .2) (λ d. absurd (d .0 y)) (one u hu)) in
-          (x, rw (← i) seed-p, reach-wider {P = Fwd g (λ v. (v < g .n) × (col b w v ≡ q)) (only p)} {Q = Rest (g .n) b r w₂} there t)
+          (x, rw (← i) seed-p, reach-wider {P = Fwd g (In g (col b w) q) (only p)} {Q = Rest (g .n) b r w₂} there t)
 
       pub slice-cuts : CutsAsk g b r top w₂
       slice-cuts = record {
@@ -261,8 +274,9 @@ module _ {g : Graph} {b p q top r : ℕ} {w : List ℕ} (a : SliceAsk g b p q to
           room = omega (arith, m .moved, e-one, few₁);
           member = λ i h. m .fresh i (omega arith) (omega (arith, e-one));
           listed = λ v (h, c, o). ⊎-elim
-              (λ t. absurd (o (t ∙ same (marksAt (g .n) b + v) (inr (omega arith)) ∙ a .untouched v h (was v h (sym (col₂ v h) ∙ c) .1) .0)))
+              (λ t. absurd (o (t ∙ flag₁ v h (sym (col₂ v h) ∙ c))))
               (λ t. let (i, x, y, s) = t .2 in (i, x, omega (arith, y, e-one), s)) (m .each v h);
+          marks = λ i h. m .marks i (omega arith) (omega (arith, e-one));
         };
         part = omega (arith, a .ask .part, q-top);
         under = omega (arith, top-le (a .ask .stage), rest);
@@ -285,8 +299,25 @@ module _ {g : Graph} {b p q top r : ℕ} {w : List ℕ} (a : SliceAsk g b p q to
             (λ t. (sym t ∙ c, λ e. ⊎-elim (λ y. omega (arith, y, e, c, q-r)) (λ y. ⊎-elim (λ i. omega (arith, i .0, c, h, a .ask .part)) (λ i. omega (arith, i .0, c, q-top)) (y .1)) (z .went v h)))
             (ends v h)
 
+        method : Obf g p q top (col b w) (col b w₃) s
+        method = record {
+          rest = r;
+          first = col b w₂;
+          marks = flag (g .n) b w₂;
+          marks' = flag (g .n) b w₃;
+          fresh = λ v h c. omega (arith, under-r v h, c);
+          forward = λ v h. ⊎-elim (λ t. inl (t .0, col₂ v h ∙ t .2)) (λ t. inr (t .0, col₂ v h ∙ t .1)) (one v h);
+          seed = λ v (h, c). (
+            λ o. sym (m .only v h (flag₁ v h (sym (col₂ v h) ∙ c)) o),
+            λ e. rw (← e) (seed-p .2),
+          );
+          slicing = z .steps;
+          done = λ v (h, c). d .none v h c;
+        }
+
         pub slice-done : Sliced g b p q top w w₃ s
         slice-done = record {
+          method = method;
           owned = record {
             whole = z .listing .standing .owned .whole;
             right = z .listing .standing .owned .right;

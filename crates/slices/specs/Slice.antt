@@ -3,44 +3,44 @@ use Prim.Native.Nat.{ℕ, _+_, _*_, _≤_, _<_}
 use mathlib.Core.Path.{_≡_}
 use mathlib.Core.List.{List}
 use mathlib.Core.Logic.{_⊎_}
-use Rattle.graph.specs.Graph.{Graph, Part, rev}
+use Rattle.graph.specs.Graph.{Graph, rev}
 use Rattle.graph.specs.Parts.{Alone}
+use Rattle.graph.specs.Apart.{Slice, Slicing, Obf}
 use Rattle.index.specs.Index.{first}
 use Rattle.memory.specs.Decomposer.{col, flag, seed, Inside}
 use Rattle.prune.specs.Cursor.{cur}
 use Rattle.split.specs.State.{Owned, held}
 use Rattle.split.specs.Split.{PivotAsk}
-use Rattle.slices.specs.Seeds.{Seeds, unmarked}
-use Rattle.slices.specs.Peel.{into, Standing}
+use Rattle.slices.specs.Seeds.{Seeds, Listed, unmarked}
+use Rattle.slices.specs.Peel.{into, Standing, Stuck}
 
--- v stands in the list of seeds, from place l up to e
-abbrev pub Listed : ℕ → ℕ → List ℕ → ℕ → ℕ → Part
-Listed n b w l e v = (i : ℕ) × (l ≤ i) × (i < e) × (seed n b w i ≡ v)
-
--- All seeds in what remains stand in the list from place l up to e.
+-- All seeds in what remains stand in the list from place l up to e; what is listed is marked.
 pub record Listing (g : Graph) (b r l e : ℕ) (w : List ℕ) : Type 0 where
   pub standing : Standing g b r w
   pub order : l ≤ e
   pub room : e + unmarked (g .n) b r w ≤ g .n
   pub member : (i : ℕ) → i < e → seed (g .n) b w i < g .n
   pub listed : (v : ℕ) → Seeds (g .n) b r w v → Listed (g .n) b w l e v
+  pub marks : (i : ℕ) → i < e → flag (g .n) b w (seed (g .n) b w i) ≡ 0 → ⊥
 
 pub record CutAsk (g : Graph) (b r s l e : ℕ) (w : List ℕ) : Type 0 where
   pub listing : Listing g b r l e w
+  pub stuck : Stuck g b r w
   pub part : g .n ≤ s
   pub under : s < r
 
--- What reaches a listed seed within what remains has the colour s; the seeds in what remains now stand in the list from e up to e'.
+-- The slice s was cut from what remains; the seeds in what remains now stand in the list from e up to e'.
 pub record Cut (g : Graph) (b r s : ℕ) (w : List ℕ) (e : ℕ) (w' : List ℕ) (e' : ℕ) : Type 0 where
   pub listing : Listing g b r e e' w'
-  pub went : (v : ℕ) → v < g .n → (col b w' v ≡ col b w v) ⊎ ((col b w v ≡ r) × (col b w' v ≡ s))
+  pub slice : Slice g r s (col b w) (flag (g .n) b w) (col b w') (flag (g .n) b w')
   pub kept : (v : ℕ) → v < g .n → (col b w v ≡ r → ⊥) → (flag (g .n) b w' v ≡ flag (g .n) b w v) × (cur (into g b) w' v ≡ cur (into g b) w v)
   pub room : e' + unmarked (g .n) b r w' ≤ e + unmarked (g .n) b r w
   pub inside : Inside (g .n) b w w'
 
--- Of what remained in w, a vertex still remains, is a component alone and has its label, or is in one of the slices top .. s - 1.
+-- Slicing has come from w to w'. Of what remained in w, a vertex still remains, is a component alone and has its label, or is in one of the slices top .. s - 1.
 pub record Cuts (g : Graph) (b r top : ℕ) (w : List ℕ) (l e s : ℕ) (w' : List ℕ) : Type 0 where
   pub listing : Listing g b r l e w'
+  pub steps : Slicing g r (col b w) (flag (g .n) b w) top (col b w') (flag (g .n) b w') s
   pub went : (v : ℕ) → v < g .n → (col b w' v ≡ col b w v)
       ⊎ ((col b w v ≡ r) × (((col b w' v ≡ v) × Alone g v) ⊎ ((top ≤ col b w' v) × (col b w' v < s))))
   pub kept : (v : ℕ) → v < g .n → (col b w v ≡ r → ⊥) → (flag (g .n) b w' v ≡ flag (g .n) b w v) × (cur (into g b) w' v ≡ cur (into g b) w v)
@@ -76,6 +76,7 @@ pub record SliceAsk (g : Graph) (b p q top : ℕ) (w : List ℕ) : Type 0 where
 
 -- What p reaches in the part q is cut into components alone, which have their labels, and the slices top .. top' - 1.
 pub record Sliced (g : Graph) (b p q top : ℕ) (w w' : List ℕ) (top' : ℕ) : Type 0 where
+  pub method : Obf g p q top (col b w) (col b w') top'
   pub owned : Owned g (col b w') top'
   pub others : (v : ℕ) → v < g .n → (col b w v ≡ q → ⊥) → col b w' v ≡ col b w v
   pub ours : (v : ℕ) → v < g .n → col b w v ≡ q → (col b w' v ≡ q) ⊎ (((col b w' v ≡ v) × Alone g v) ⊎ ((top ≤ col b w' v) × (col b w' v < top')))

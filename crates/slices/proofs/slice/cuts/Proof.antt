@@ -39,7 +39,7 @@ loop-less c =
     let s = begins (inside (peeled (c .before .before))) in
     let z = (inside (peeled (c .before .before))) .before .loop .inv (s .pre .0) (s .pre .1) in
     let t = (inside (peeled (c .before .before))) .loop-test .taken in
-    omega (arith, cuts-few (s .pre .1) z t, t, (peeled (c .before .before)) .peel .ensures (s .pre .0) (cuts-pass (s .pre .1) z t) .more)
+    omega (arith, cuts-few (s .pre .1) z t, t, (peeled (c .before .before)) .peel .ensures (s .pre .0) (cuts-pass (s .pre .1) z t) .peeled .more)
 
 loop-again : tie.Need-loop-again Inv-loop μ-loop
 loop-again c =

@@ -7,7 +7,8 @@ use Rattle.graph.specs.Graph.{rev}
 use Rattle.graph.specs.Arrows.{Every}
 use Rattle.paint.specs.Colours.{paint}
 use Rattle.paint.specs.Paint.{Begun}
-use Rattle.slices.specs.Slice.{Listed, CutAsk}
+use Rattle.slices.specs.Seeds.{Listed}
+use Rattle.slices.specs.Slice.{CutAsk}
 use Rattle.slices.proofs.Cutting.{sow-none, sow-visit, sow-step}
 use Rattle.slices.proofs.slice.sow.Statement.{statement}
 use Rattle.slices.proofs.slice.sow.Tie as tie
