@@ -6,6 +6,7 @@ use mathlib.Core.Logic.{_⊎_}
 use lib.ListN.{length, getD, set}
 use Rattle.graph.specs.Graph.{Graph}
 use Rattle.graph.specs.Limits.{mostVertices}
+use Rattle.graph.specs.Apart.{ForwardBackward}
 use Rattle.memory.specs.Decomposer.{col, que}
 use Rattle.memory.specs.Memory.{Framed}
 use Rattle.split.specs.State.{Owned, Stage}
@@ -64,8 +65,8 @@ pub record PivotAsk (g : Graph) (b p q top : ℕ) (w : List ℕ) : Type 0 where
 -- The part q was split at p: p's component has its label, the parts f and f + 1 are new.
 pub record Split (g : Graph) (b p q f : ℕ) (w w' : List ℕ) : Type 0 where
   pub owned : Owned g (col b w') (f + 2)
-  pub others : (v : ℕ) → v < g .n → (col b w v ≡ q → ⊥) → col b w' v ≡ col b w v
   pub ours : (v : ℕ) → v < g .n → col b w v ≡ q → (col b w' v ≡ q) ⊎ ((col b w' v < g .n) ⊎ (f ≤ col b w' v))
   pub pivot : col b w' p < g .n
   pub one : (v : ℕ) → v < g .n → col b w' v < g .n → (col b w' v ≡ col b w v) ⊎ (col b w' v ≡ col b w' p)
+  pub method : ForwardBackward g p q f (col b w) (col b w')
   pub kept : Framed b (b + g .n + g .n) w w'

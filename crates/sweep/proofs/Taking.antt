@@ -29,7 +29,7 @@ module _ {g : Graph} {slicing b p q top : ℕ} {w : List ℕ} (a : TakeAsk g sli
   pub take-split : {w' : List ℕ} → (slicing ≡ 1 → ⊥) → Split g b p q top w w' → Taken g slicing b p q top w w' (top + 2)
   take-split o z = record {
     owned = z .owned;
-    others = z .others;
+    others = z .method .others;
     ours = z .ours;
     pivot = λ e. omega (arith, e, z .pivot, a .ready .part);
     least = omega arith;
