@@ -1,30 +1,87 @@
--- The pivots of a sweep are those of document 01: the order of the places is that of the caller's list.
-use Prim.Native.Nat.{ℕ, _<_}
+-- A sweep is a row of choices as document 01 says them: the order of the places is that of the caller's list.
+use Prim.Native.Nat.{ℕ, zero, suc, _+_, _≤_, _<_}
+use native.Mathlib.Omega.{arith}
 use native.Mathlib.Decide.{ℕ-discrete}
-use mathlib.Core.Path.{_≡_, refl, ap, _∙_}
+use mathlib.Core.Path.{_≡_, refl, sym, ap, _∙_}
+use mathlib.Core.Logic.{inl, inr, ⊎-elim}
+use mathlib.Core.Bool.{Bool}
 use mathlib.Core.List.{List, []}
 use borrow.Author.Tests.{ne-eqb}
-use Rattle.graph.specs.Pivot.{pivot, listed}
+use Rattle.graph.specs.Graph.{Graph}
+use Rattle.graph.specs.Numbers.{least}
+use Rattle.graph.specs.Pivot.{draws, pivot, listed, listOf}
+use Rattle.graph.specs.Apart.{has, Obf, Pivoted, Choices, unchosen, choice}
+use Rattle.graph.proofs.Chains.{same-low}
 use Rattle.graph.proofs.Tests.{eq-T}
 use Rattle.pivot.specs.Order.{Arranged}
 use Rattle.pivot.proofs.Places.{listed-end}
-use Rattle.memory.specs.Decomposer.{col, ord}
-use Rattle.split.specs.State.{Placed}
-use Rattle.sweep.specs.Sweep.{has, chosen}
+use Rattle.memory.specs.Decomposer.{col, ord, orderAt}
+use Rattle.paint.specs.Colours.{Whole}
+use Rattle.split.specs.State.{Placed, Stage}
+use Rattle.slices.specs.Slice.{Sliced}
+use Rattle.sweep.specs.Taken.{Taken}
+use Rattle.sweep.specs.Sweep.{chosen, Sweeps, unswept, taken}
 
+-- THE ORDER
 pub arranged-placed : {n b : ℕ} {list w : List ℕ} → Arranged n list (ord n b w) → Placed n b w
 arranged-placed a = record { low = a .low; one = a .one; all = a .all }
 
--- for kind 0 the list is empty
-pub chosen-pivot : (n b : ℕ) (w list : List ℕ) (q kind state v : ℕ) → Arranged n list (ord n b w) → (kind ≡ 0 → list ≡ []) → v < n → col b w v ≡ q
-    → chosen n b w q kind state ≡ pivot n (has b w q) kind state list
-unfolding chosen pivot
-chosen-pivot n b w list q kind state v a none l e = go (ℕ-discrete kind 0) (ℕ-discrete kind 1)
-  where
-    first : chosen n b w q 0 state ≡ listed n (has b w q) list
-    first = a .exact (has b w q) v l (eq-T (col b w v) q e)
+least-same : (n : ℕ) (f h : ℕ → Bool) → ((i : ℕ) → f i ≡ h i) → least n f ≡ least n h
+unfolding least
+least-same zero f h e = refl
+least-same (suc n) f h e = rw (e zero, least-same n (λ i. f (suc i)) (λ i. h (suc i)) (λ i. e (suc i)))
 
-    go : Dec (kind ≡ 0) → Dec (kind ≡ 1) → chosen n b w q kind state ≡ pivot n (has b w q) kind state list
-    go (yes z) d = rw z (first ∙ ap (listed n (has b w q)) (none z) ∙ listed-end n (has b w q))
+pub arranged-same : {n : ℕ} {list : List ℕ} {f h : ℕ → ℕ} → ((i : ℕ) → h i ≡ f i) → Arranged n list f → Arranged n list h
+arranged-same {n} {list} {f} {h} e a =
+    record {
+      low = λ i l. omega (arith, e i, a .low i l);
+      one = λ i j l m q. a .one i j l m (sym (e i) ∙ q ∙ e j);
+      all = λ v l. let (i, q, m) = a .all v l in (i, q, e i ∙ m);
+      exact = λ p v l t. e (least n (λ i. p (h i))) ∙ ap f (least-same n (λ i. p (h i)) (λ i. p (f i)) (λ i. ap p (e i))) ∙ a .exact p v l t;
+    }
+
+-- ONE CHOICE
+-- what is chosen by the order is the pivot
+pub chosen-pivot : (n b : ℕ) (w list : List ℕ) (q kind state v : ℕ) → Arranged n (listOf kind list) (ord n b w) → kind ≤ 2 → v < n → col b w v ≡ q
+    → chosen n b w q kind state ≡ pivot n (has (col b w) q) kind state list
+unfolding chosen pivot
+chosen-pivot n b w list q kind state v a most l e = go (ℕ-discrete kind 0) (ℕ-discrete kind 1)
+  where
+    first : chosen n b w q 0 state ≡ listed n (has (col b w) q) (listOf kind list)
+    first = a .exact (has (col b w) q) v l (eq-T (col b w v) q e)
+
+    -- the caller's list counts for kind 2 only
+    by : (k : ℕ) → kind ≡ k → listOf kind list ≡ listOf k list
+    by k z = ap (λ (x : ℕ). listOf x list) z
+
+    go : Dec (kind ≡ 0) → Dec (kind ≡ 1) → chosen n b w q kind state ≡ pivot n (has (col b w) q) kind state list
+    go (yes z) d = rw z (first ∙ ap (listed n (has (col b w) q)) (by 0 z) ∙ listed-end n (has (col b w) q))
     go (no o) (yes z) = rw z refl
-    go (no o) (no p) = rw (ne-eqb kind 0 o, ne-eqb kind 1 p) first
+    go (no o) (no p) = rw (ne-eqb kind 0 o, ne-eqb kind 1 p) (first ∙ ap (listed n (has (col b w) q)) (by 2 (omega arith)))
+
+-- SEVERAL CHOICES
+module _ (obf : (g : Graph) (b p q top : ℕ) (w w' : List ℕ) (top' : ℕ) → Sliced g b p q top w w' top' → Obf g p q top (col b w) (col b w') top') where
+  -- what a pivot has done, by either method
+  pub taken-pivoted : {g : Graph} {slicing b p q top : ℕ} {w w' : List ℕ} {top' : ℕ} → Taken g slicing b p q top w w' top' → Pivoted g slicing p q top (col b w) (col b w') top'
+  taken-pivoted {g} {b = b} {p} {q} {top} {w} {w'} {top'} z =
+      ⊎-elim (λ y. inl (y .0, y .1, y .2 .method)) (λ y. inr (y .0, obf g b p q top w w' top' (y .1))) (z .how)
+
+  module _ {g : Graph} {slicing b q kind state top : ℕ} {w : List ℕ} (st : Stage g b top w) where
+    sweeps-whole : {k t : ℕ} {w' : List ℕ} → Sweeps g slicing b q kind state top w k t w' → Whole g b w'
+    sweeps-whole unswept = st .owned .whole
+    sweeps-whole (taken p s l e c z) = z .owned .whole
+
+    sweeps-ord : {k t : ℕ} {w' : List ℕ} → Sweeps g slicing b q kind state top w k t w' → (i : ℕ) → ord (g .n) b w' i ≡ ord (g .n) b w i
+    sweeps-ord unswept i = refl
+    sweeps-ord (taken p s l e c z) i = z .inside .high (orderAt (g .n) b + i) (omega arith) ∙ sweeps-ord s i
+
+    pub sweeps-choices : (list : List ℕ) → Arranged (g .n) (listOf kind list) (ord (g .n) b w) → kind ≤ 2
+        → {k t : ℕ} {w' : List ℕ} → Sweeps g slicing b q kind state top w k t w' → Choices g slicing q kind state list (col b w) top k (col b w') t
+    sweeps-choices list a most unswept = unchosen
+    sweeps-choices list a most (taken {k} {w₁ = w₁} p s l e c z) = choice p (sweeps-choices list a most s)
+        (record {
+          whole = λ u v y (h, d). (same-low (st .tables .valid) y h, sym (sweeps-whole s u v h y) ∙ d);
+          member = (l, e);
+          exact = c ∙ chosen-pivot (g .n) b w₁ list q kind (draws k state) p (arranged-same (sweeps-ord s) a) most l e;
+        })
+        (taken-pivoted z)

@@ -15,6 +15,7 @@ use Rattle.graph.specs.Parts.{only}
 use Rattle.graph.specs.Limits.{mostVertices}
 use Rattle.graph.specs.Numbers.{many}
 use Rattle.graph.specs.Pivot.{draw, draws, member}
+use Rattle.graph.specs.Apart.{has}
 use Rattle.graph.specs.Sets.{bit, members}
 use Rattle.graph.proofs.Counts.{many-le}
 use Rattle.graph.proofs.Pivot.{member-in}
@@ -31,7 +32,7 @@ use Rattle.split.proofs.Splitting.{first-ask, second-ask, label-ask, l-low, spl
 use Rattle.slices.specs.Seeds.{MarkAsk, Mark}
 use Rattle.slices.specs.Slice.{CutsAsk, Done, SliceAsk}
 use Rattle.slices.proofs.Slicing.{slice-start, slice-mark, slice-cuts, slice-done, slice-rest}
-use Rattle.sweep.specs.Sweep.{has, chosen, Sweeps, unswept, taken}
+use Rattle.sweep.specs.Sweep.{chosen, Sweeps, unswept, taken}
 use Rattle.sweep.specs.Drawn.{Empty, Marks, EraseAsk, Erased, FindAsk, FoundIn, PickAsk, Picked, DrawAsk, Drawn, RunAsk, SweptDrawn}
 use Rattle.sweep.proofs.Marking.{tally-at}
 use Rattle.sweep.proofs.Taking.{pivot-ask, slice-ask, take-split, take-slice, taken-held}
@@ -48,17 +49,17 @@ many-same p r k h = many-tally p k ∙ tally-ext (λ i. cond (p i) 1 0) (λ i. c
 
 -- THE SET
 module _ {n b q : ℕ} {w ws : List ℕ} {left : ℕ} (z : Marks n b q w ws left) where
-  pub marks-many : left ≡ many (has b w q) n
-  marks-many = z .size ∙ tally-ext (bit ws) (λ v. cond (has b w q v) 1 0) n (z .bits) ∙ sym (many-tally (has b w q) n)
+  pub marks-many : left ≡ many (has (col b w) q) n
+  marks-many = z .size ∙ tally-ext (bit ws) (λ v. cond (has (col b w) q v) 1 0) n (z .bits) ∙ sym (many-tally (has (col b w) q) n)
 
-  marks-has : (v : ℕ) → v < n → members n ws v ≡ has b w q v
-  marks-has v l = bool-same (members n ws v) (has b w q v) (member-bit ws n v l ∙ z .bits v l)
+  marks-has : (v : ℕ) → v < n → members n ws v ≡ has (col b w) q v
+  marks-has v l = bool-same (members n ws v) (has (col b w) q v) (member-bit ws n v l ∙ z .bits v l)
 
   pub marks-within : n ≤ mostVertices → 0 < left → (s : ℕ) → Within ws n (s % left)
   marks-within small some s = record {
     small = small;
     words = z .words;
-    low = omega (arith, mod-lt s some, marks-many, many-same (members n ws) (has b w q) n marks-has);
+    low = omega (arith, mod-lt s some, marks-many, many-same (members n ws) (has (col b w) q) n marks-has);
   }
 
   -- the vertex at the place drawn is the one that kind 1 chooses
@@ -68,12 +69,12 @@ module _ {n b q : ℕ} {w ws : List ℕ} {left : ℕ} (z : Marks n b q w ws left
       let j : ℕ = draw state % left in
       let (low, is, at) = member-in n (members n ws) (draw state % left) (marks-within small some (draw state) .low) in
       let r : ℕ = member n (members n ws) (draw state % left) in
-      let t : T (has b w q (member n (members n ws) (draw state % left))) = rw (marks-has (member n (members n ws) (draw state % left)) low) at is in
-      let m : many (has b w q) (member n (members n ws) (draw state % left)) ≡ draw state % left =
-      sym (many-same (members n ws) (has b w q) (member n (members n ws) (draw state % left)) (λ v l. marks-has v (omega arith))) ∙ at in
-      let c : member n (members n ws) (draw state % left) ≡ member n (has b w q) (draw state % left) =
-      at-place n (has b w q) (member n (members n ws) (draw state % left)) (draw state % left) low t m (omega (arith, marks-many, mod-lt (draw state) some)) in
-      rw e (low, eqb→eq (col b w (member n (members n ws) (draw state % left))) q t, c ∙ ap (λ (k : ℕ). member n (has b w q) (draw state % k)) marks-many)
+      let t : T (has (col b w) q (member n (members n ws) (draw state % left))) = rw (marks-has (member n (members n ws) (draw state % left)) low) at is in
+      let m : many (has (col b w) q) (member n (members n ws) (draw state % left)) ≡ draw state % left =
+      sym (many-same (members n ws) (has (col b w) q) (member n (members n ws) (draw state % left)) (λ v l. marks-has v (omega arith))) ∙ at in
+      let c : member n (members n ws) (draw state % left) ≡ member n (has (col b w) q) (draw state % left) =
+      at-place n (has (col b w) q) (member n (members n ws) (draw state % left)) (draw state % left) low t m (omega (arith, marks-many, mod-lt (draw state) some)) in
+      rw e (low, eqb→eq (col b w (member n (members n ws) (draw state % left))) q t, c ∙ ap (λ (k : ℕ). member n (has (col b w) q) (draw state % k)) marks-many)
 
   -- a set of no vertex
   pub marks-gone : left ≡ 0 → (v : ℕ) → v < n → col b w v ≡ q → ⊥
@@ -85,7 +86,7 @@ module _ {n b q : ℕ} {w ws : List ℕ} {left : ℕ} (z : Marks n b q w ws left
   marks-empty e = record { words = z .words; none = λ v l. omega (arith, e, z .size, tally-at (bit ws) n v l) }
 
   pub marks-few : left ≤ n
-  marks-few = omega (arith, marks-many, many-le (has b w q) n)
+  marks-few = omega (arith, marks-many, many-le (has (col b w) q) n)
 
 -- the same set, where nothing enters or leaves the part
 marks-same : {n b q : ℕ} (w w' : List ℕ) {ws : List ℕ} {left : ℕ} → Marks n b q w ws left

@@ -10,12 +10,12 @@ use lib.ListN.{length}
 use borrow.Author.Tests.{eq-eqb, ne-eqb}
 use Rattle.graph.specs.Limits.{wordsOf}
 use Rattle.graph.specs.Numbers.{tally}
+use Rattle.graph.specs.Apart.{has}
 use Rattle.graph.specs.Sets.{bit}
 use Rattle.graph.proofs.Sums.{tally-none}
 use Rattle.graph.proofs.Changes.{tally-less}
 use Rattle.memory.specs.Decomposer.{col, que, ord, own, nxt}
 use Rattle.split.specs.Chain.{Follows}
-use Rattle.sweep.specs.Sweep.{has}
 use Rattle.sweep.specs.Drawn.{Marks, EnterAsk, Entered, MarkAsk, StrikeAsk, Struck, EraseAsk, Erased}
 
 pub tally-at : (f : ℕ → ℕ) (n x : ℕ) → x < n → f x ≤ tally f n
@@ -123,7 +123,7 @@ module _ {n b h q : ℕ} {w ws₀ : List ℕ} (a : MarkAsk n b h q w ws₀) wher
     pub mark-all : n ≤ i → Marks n b q w ws k
     mark-all m = record {
       words = z .words;
-      bits = λ v l. elim (ℕ-discrete (col b w v) q) as (λ _. bit ws v ≡ cond (has b w q v) 1 0) [
+      bits = λ v l. elim (ℕ-discrete (col b w v) q) as (λ _. bit ws v ≡ cond (has (col b w) q v) 1 0) [
         | yes e ↦ let y = a .placed .all v l in
             rw (eq-eqb (col b w v) q e) (ap (bit ws) (sym (y .2)) ∙ z .some (y .0) (omega (arith, y .1)) (ap (col b w) (y .2) ∙ e))
         | no e ↦ rw (ne-eqb (col b w v) q e) (⊎-elim (λ t. t) (λ t. absurd (e (ap (col b w) (sym (t .2)) ∙ t .3))) (z .only v l))

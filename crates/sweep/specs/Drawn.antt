@@ -10,6 +10,7 @@ use Rattle.graph.specs.Parts.{only}
 use Rattle.graph.specs.Limits.{wordsOf, mostVertices}
 use Rattle.graph.specs.Numbers.{tally}
 use Rattle.graph.specs.Pivot.{draw, draws}
+use Rattle.graph.specs.Apart.{has}
 use Rattle.graph.specs.Sets.{bit}
 use Rattle.sets.specs.Changes.{Added, Removed}
 use Rattle.memory.specs.Decomposer.{col, que, ord, own}
@@ -17,7 +18,7 @@ use Rattle.paint.specs.Paint.{StartAsk, Searched}
 use Rattle.split.specs.State.{Placed}
 use Rattle.split.specs.Split.{Queued}
 use Rattle.sweep.specs.Taken.{Ready, TakeAsk, Taken}
-use Rattle.sweep.specs.Sweep.{has, chosen, Sweeps, Runs, SweepAsk}
+use Rattle.sweep.specs.Sweep.{chosen, Sweeps, Runs, SweepAsk}
 
 -- the set has no vertex
 pub record Empty (n : ℕ) (ws : List ℕ) : Type 0 where
@@ -27,7 +28,7 @@ pub record Empty (n : ℕ) (ws : List ℕ) : Type 0 where
 -- the set is what has the colour q, and left is its size
 pub record Marks (n b q : ℕ) (w ws : List ℕ) (left : ℕ) : Type 0 where
   pub words : length ws ≡ wordsOf n
-  pub bits : (v : ℕ) → v < n → bit ws v ≡ cond (has b w q v) 1 0
+  pub bits : (v : ℕ) → v < n → bit ws v ≡ cond (has (col b w) q v) 1 0
   pub size : left ≡ tally (bit ws) n
 
 pub record EnterAsk (n b i : ℕ) (w ws : List ℕ) (k : ℕ) : Type 0 where

@@ -1,25 +1,22 @@
 -- A part is swept: pivots are taken among what still has its colour, until nothing of it is left.
 use Prim.Native.Nat.{ℕ, suc, _%_, _<_}
 use mathlib.Core.Path.{_≡_}
-use mathlib.Core.Bool.{Bool, cond}
+use mathlib.Core.Bool.{cond}
 use mathlib.Core.List.{List}
 use mathlib.Core.Logic.{_⊎_}
 use lib.Dec.{eqb}
 use Rattle.graph.specs.Graph.{Graph}
 use Rattle.graph.specs.Numbers.{least, many}
 use Rattle.graph.specs.Pivot.{draw, draws, member}
+use Rattle.graph.specs.Apart.{has}
 use Rattle.memory.specs.Decomposer.{col, ord, own, nxt}
 use Rattle.split.specs.Chain.{Follows, First}
 use Rattle.sweep.specs.Taken.{Ready, Taken}
 
--- v has the colour q
-abbrev pub has : ℕ → List ℕ → ℕ → ℕ → Bool
-has b w q v = eqb (col b w v) q
-
 -- the pivot that a kind chooses from what has the colour q: kind 1 draws it, the others take the first in the order
 unfoldable pub chosen : ℕ → ℕ → List ℕ → (q kind state : ℕ) → ℕ
 chosen n b w q kind state =
-    cond (eqb kind 1) (member n (has b w q) (draw state % many (has b w q) n)) (ord n b w (least n (λ i. eqb (own n b w i) q)))
+    cond (eqb kind 1) (member n (has (col b w) q) (draw state % many (has (col b w) q) n)) (ord n b w (least n (λ i. eqb (own n b w i) q)))
 
 -- k pivots were taken in the part q, each the one that its kind chooses from what was then left of it; t is the first colour that no part has then.
 pub data Sweeps (g : Graph) (slicing b q kind state top : ℕ) (w : List ℕ) : ℕ → ℕ → List ℕ → Type 0 where
