@@ -9,18 +9,24 @@ use lib.Dec.{T, ltb, ltb→lt, lt→ltb, eqb}
 use Rattle.graph.specs.Graph.{Graph}
 use Rattle.graph.specs.Parts.{Alone, Closed}
 use Rattle.graph.specs.Numbers.{many}
+use Rattle.graph.specs.Pivot.{listOf}
+use Rattle.graph.specs.Apart.{In, Obf, Divides}
 use Rattle.graph.proofs.Chains.{valid-rev, same-low}
 use Rattle.graph.proofs.Counts.{many-le, many-mono, many-more}
 use Rattle.memory.specs.Decomposer.{col, ord, own, chainsAt, orderAt, Inside}
 use Rattle.memory.proofs.Memory.{touched-more}
+use Rattle.pivot.specs.Order.{Arranged}
 use Rattle.prune.specs.Cursor.{Hued}
 use Rattle.prune.specs.Trim.{Trimmed}
 use Rattle.prune.proofs.Core.{gone-alone}
 use Rattle.split.specs.State.{Owned, labelled, rings, Stage}
+use Rattle.split.specs.Chain.{First}
 use Rattle.split.proofs.Rings.{rings-none, rings-alone}
 use Rattle.split.proofs.Same.{labels-same, owned-alone, stage-moved}
+use Rattle.slices.specs.Slice.{Sliced}
 use Rattle.sweep.specs.Kind.{KindAsk, KindSwept}
 use Rattle.sweep.proofs.Sweeping.{Course, sweeps-course}
+use Rattle.sweep.proofs.Choice.{arranged-same, sweeps-choices}
 use Rattle.parts.specs.Share.{Sharing, ShareAsk}
 use Rattle.parts.specs.Divide.{MethodAsk, MakeAsk, Made, Recoloured, Division}
 use Rattle.parts.proofs.Handing.{hand-ask, hand-colour, handed}
@@ -71,6 +77,27 @@ module _ {g : Graph} {b q top : ℕ} {w : List ℕ} (w₁ : List ℕ) (s : Stage
     | no y ↦ absurd (y (sym (alone-else (ord (g .n) b w i) (s .placed .low i l) y) ∙ ap (col b w₁) (sym (inside .high (orderAt (g .n) b + i) (omega arith))) ∙ e))
   ]
 
+-- THE PART AT h
+module _ {g : Graph} {b h top : ℕ} {w : List ℕ} (st : Stage g b top w) (first : First (g .n) (own (g .n) b w) h) where
+  first-low : ord (g .n) b w h < g .n
+  first-low = st .placed .low h (first .low)
+
+  first-known : own (g .n) b w h < top
+  first-known = st .owned .below (ord (g .n) b w h) first-low
+
+  -- it was made ready
+  module _ {slicing : ℕ} {w₁ : List ℕ} (z : Made g slicing b (own (g .n) b w h) w w₁) where
+    made-each : (v : ℕ) → v < g .n → (col b w₁ v ≡ col b w v) ⊎ ((col b w v ≡ own (g .n) b w h) × (col b w₁ v ≡ v) × Alone g v)
+    made-each v l = ⊎-elim (λ y. trim-each st (first .part) (y .1 .1) v l) (λ y. inl (y .1 .low (b + v) (omega arith))) z
+
+    made-inside : Inside (g .n) b w w₁
+    made-inside = ⊎-elim
+        (λ y. let i = y .1 .1 .aside in record { low = i .low; mid = i .mid; high = λ j l. i .high j (omega arith); long = i .long })
+        (λ y. let i = y .1 in record { low = λ j l. i .low j (omega arith); mid = λ j l m. i .low j m; high = λ j l. i .high j (omega arith); long = i .long }) z
+
+    made-stage : Stage g b top w₁
+    made-stage = alone-stage w₁ st (first .part) first-known made-inside made-each
+
 -- THE WHOLE
 module _ {g : Graph} {slicing b h top : ℕ} {w ws : List ℕ} (a : MethodAsk g slicing b h top w ws) where
   abbrev q : ℕ
@@ -83,10 +110,10 @@ module _ {g : Graph} {slicing b h top : ℕ} {w ws : List ℕ} (a : MethodAsk g 
   part = a .ask .first .part
 
   low-h : ord (g .n) b w h < g .n
-  low-h = st .placed .low h (a .ask .first .low)
+  low-h = first-low st (a .ask .first)
 
   known : own (g .n) b w h < top
-  known = st .owned .below (ord (g .n) b w h) low-h
+  known = first-known st (a .ask .first)
 
   pub divide-make : MakeAsk g b h (own (g .n) b w h) w
   divide-make = record {
@@ -107,18 +134,16 @@ module _ {g : Graph} {slicing b h top : ℕ} {w ws : List ℕ} (a : MethodAsk g 
 
   module _ {w₁ : List ℕ} (z : Made g slicing b (own (g .n) b w h) w w₁) where
     each₁ : (v : ℕ) → v < g .n → (col b w₁ v ≡ col b w v) ⊎ ((col b w v ≡ q) × (col b w₁ v ≡ v) × Alone g v)
-    each₁ v l = ⊎-elim (λ y. trim-each st part (y .1 .1) v l) (λ y. inl (y .1 .low (b + v) (omega arith))) z
+    each₁ = made-each st (a .ask .first) z
 
     inside₁ : Inside (g .n) b w w₁
-    inside₁ = ⊎-elim
-        (λ y. let i = y .1 .1 .aside in record { low = i .low; mid = i .mid; high = λ j l. i .high j (omega arith); long = i .long })
-        (λ y. let i = y .1 in record { low = λ j l. i .low j (omega arith); mid = λ j l m. i .low j m; high = λ j l. i .high j (omega arith); long = i .long }) z
+    inside₁ = made-inside st (a .ask .first) z
 
     pub divide-sweep : KindAsk g slicing b h (own (g .n) b w h) top w₁ ws
     divide-sweep = record {
       sweep = record {
         ready = record {
-          stage = alone-stage w₁ st part known inside₁ each₁;
+          stage = made-stage st (a .ask .first) z;
           part = part;
           known = known;
           uncut = λ o. ⊎-elim (λ y. absurd (y .0 o)) (λ y. record {
@@ -180,6 +205,7 @@ module _ {g : Graph} {slicing b h top : ℕ} {w ws : List ℕ} (a : MethodAsk g 
 
         pub divide-all : Division g slicing b kind state h top w ws w₃ ws₂ state' k top' children
         divide-all = record {
+          first = a .ask .first;
           handed = handed (a .ask) recoloured x (y .blank) (y .beyond) (y .long);
           ready = w₁;
           made = z;
@@ -188,9 +214,35 @@ module _ {g : Graph} {slicing b h top : ℕ} {w ws : List ℕ} (a : MethodAsk g 
           sweeps = y .sweeps;
           drawn = y .drawn;
           advanced = y .advanced;
+          colours = c₃;
           most = omega (arith, course .left, many-le (λ v. eqb (col b w₁ v) q) (g .n));
           many = omega (arith, rings₃, course .many, rings₁);
           few = λ o. omega (arith, labels-same g b w₂ w₃ c₃, course .few o, labels₁);
           some = λ o. omega (arith, labels-same g b w₂ w₃ c₃, some₂ o);
           alone = λ o. omega (arith, rings₃, course .alone o, rings₁);
         }
+
+-- AS DOCUMENT 01 SAYS IT
+module _ (obf : (g : Graph) (b p q top : ℕ) (w w' : List ℕ) (top' : ℕ) → Sliced g b p q top w w' top' → Obf g p q top (col b w) (col b w') top')
+    {g : Graph} {slicing b kind state h top : ℕ} {w ws w' ws' : List ℕ} {state' k top' children : ℕ} (list : List ℕ) (st : Stage g b top w)
+    (d : Division g slicing b kind state h top w ws w' ws' state' k top' children) where
+  -- the part's colour is neither a label nor a new one
+  division-gone : (v : ℕ) → In g (col b w') (own (g .n) b w h) v → ⊥
+  division-gone v (l, e) = elim (ℕ-discrete (col b w v) (own (g .n) b w h)) as (λ _. ⊥) [
+    | yes c ↦ ⊎-elim (λ m. omega (arith, m, e, d .first .part)) (λ m. omega (arith, m, e, first-known st (d .first))) (d .handed .ours v l c)
+    | no c ↦ c (sym (d .handed .others v l c) ∙ e)
+  ]
+
+  pub division-divides : Arranged (g .n) (listOf kind list) (ord (g .n) b w) → kind ≤ 2
+      → Divides g slicing (own (g .n) b w h) kind state list (col b w) top (d .pivots) (col b w') top'
+  division-divides a most = record {
+    ready = col b (d .ready);
+    made = ⊎-elim
+        (λ y. inl (y .0, record { stays = y .1 .1 .stays; goes = λ v (l, e). y .1 .1 .goes v l e; others = y .1 .1 .else }))
+        (λ y. inr (y .0, λ v l. y .1 .low (b + v) (omega arith))) (d .made);
+    swept = col b (d .swept);
+    choices = sweeps-choices obf (made-stage st (d .first) (d .made)) list
+        (arranged-same (λ i. made-inside st (d .first) (d .made) .high (orderAt (g .n) b + i) (omega arith)) a) most (d .sweeps);
+    end = d .colours;
+    gone = division-gone;
+  }

@@ -69,8 +69,9 @@ pub record Handed (g : Graph) (b h top : ℕ) (w ws w' ws' : List ℕ) (top' chi
   pub beyond : (j : ℕ) → wordsOf (g .n) ≤ j → getD ws' j 0 ≡ getD ws j 0
   pub words-long : length ws' ≡ length ws
 
--- The part at h was divided.
+-- The part whose first place is h was divided.
 pub record Division (g : Graph) (slicing b kind state h top : ℕ) (w ws w' ws' : List ℕ) (state' k top' children : ℕ) : Type 0 where
+  pub first : First (g .n) (own (g .n) b w) h
   pub handed : Handed g b h top w ws w' ws' top' children
   -- it was made ready, and then swept by the pivots that the kind chooses
   pub ready : List ℕ
@@ -80,6 +81,8 @@ pub record Division (g : Graph) (slicing b kind state h top : ℕ) (w ws w' ws' 
   pub sweeps : Sweeps g slicing b (own (g .n) b w h) kind state top ready pivots top' swept
   pub drawn : k ≡ cond (eqb kind 1) pivots 0
   pub advanced : state' ≡ draws k state
+  -- handing out changes no colour
+  pub colours : (v : ℕ) → v < g .n → col b w' v ≡ col b swept v
   -- each pivot leaves the part, and finishes at most one component of two or more
   pub most : pivots ≤ g .n
   pub many : rings g b w' ≤ rings g b w + pivots
