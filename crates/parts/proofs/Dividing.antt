@@ -10,7 +10,7 @@ use Rattle.graph.specs.Graph.{Graph}
 use Rattle.graph.specs.Parts.{Alone, Closed}
 use Rattle.graph.specs.Numbers.{many}
 use Rattle.graph.specs.Pivot.{listOf}
-use Rattle.graph.specs.Apart.{In, Obf, Divides}
+use Rattle.graph.specs.Apart.{In, Divides}
 use Rattle.graph.proofs.Chains.{valid-rev, same-low}
 use Rattle.graph.proofs.Counts.{many-le, many-mono, many-more}
 use Rattle.memory.specs.Decomposer.{col, ord, own, chainsAt, orderAt, Inside}
@@ -23,7 +23,6 @@ use Rattle.split.specs.State.{Owned, labelled, rings, Stage}
 use Rattle.split.specs.Chain.{First}
 use Rattle.split.proofs.Rings.{rings-none, rings-alone}
 use Rattle.split.proofs.Same.{labels-same, owned-alone, stage-moved}
-use Rattle.slices.specs.Slice.{Sliced}
 use Rattle.sweep.specs.Kind.{KindAsk, KindSwept}
 use Rattle.sweep.proofs.Sweeping.{Course, sweeps-course}
 use Rattle.sweep.proofs.Choice.{arranged-same, sweeps-choices}
@@ -223,8 +222,7 @@ module _ {g : Graph} {slicing b h top : ℕ} {w ws : List ℕ} (a : MethodAsk g 
         }
 
 -- AS DOCUMENT 01 SAYS IT
-module _ (obf : (g : Graph) (b p q top : ℕ) (w w' : List ℕ) (top' : ℕ) → Sliced g b p q top w w' top' → Obf g p q top (col b w) (col b w') top')
-    {g : Graph} {slicing b kind state h top : ℕ} {w ws w' ws' : List ℕ} {state' k top' children : ℕ} (list : List ℕ) (st : Stage g b top w)
+module _ {g : Graph} {slicing b kind state h top : ℕ} {w ws w' ws' : List ℕ} {state' k top' children : ℕ} (list : List ℕ) (st : Stage g b top w)
     (d : Division g slicing b kind state h top w ws w' ws' state' k top' children) where
   -- the part's colour is neither a label nor a new one
   division-gone : (v : ℕ) → In g (col b w') (own (g .n) b w h) v → ⊥
@@ -241,7 +239,7 @@ module _ (obf : (g : Graph) (b p q top : ℕ) (w w' : List ℕ) (top' : ℕ) →
         (λ y. inl (y .0, record { stays = y .1 .1 .stays; goes = λ v (l, e). y .1 .1 .goes v l e; others = y .1 .1 .else }))
         (λ y. inr (y .0, λ v l. y .1 .low (b + v) (omega arith))) (d .made);
     swept = col b (d .swept);
-    choices = sweeps-choices obf (made-stage st (d .first) (d .made)) list
+    choices = sweeps-choices (made-stage st (d .first) (d .made)) list
         (arranged-same (λ i. made-inside st (d .first) (d .made) .high (orderAt (g .n) b + i) (omega arith)) a) most (d .sweeps);
     end = d .colours;
     gone = division-gone;

@@ -10,7 +10,7 @@ use borrow.Author.Tests.{ne-eqb}
 use Rattle.graph.specs.Graph.{Graph}
 use Rattle.graph.specs.Numbers.{least}
 use Rattle.graph.specs.Pivot.{draws, pivot, listed, listOf}
-use Rattle.graph.specs.Apart.{has, Obf, Pivoted, Choices, unchosen, choice}
+use Rattle.graph.specs.Apart.{has, Pivoted, Choices, unchosen, choice}
 use Rattle.graph.proofs.Chains.{same-low}
 use Rattle.graph.proofs.Tests.{eq-T}
 use Rattle.pivot.specs.Order.{Arranged}
@@ -18,7 +18,6 @@ use Rattle.pivot.proofs.Places.{listed-end}
 use Rattle.memory.specs.Decomposer.{col, ord, orderAt}
 use Rattle.paint.specs.Colours.{Whole}
 use Rattle.split.specs.State.{Placed, Stage}
-use Rattle.slices.specs.Slice.{Sliced}
 use Rattle.sweep.specs.Taken.{Taken}
 use Rattle.sweep.specs.Sweep.{chosen, Sweeps, unswept, taken}
 
@@ -60,28 +59,26 @@ chosen-pivot n b w list q kind state v a most l e = go (ℕ-discrete kind 0) (�
     go (no o) (no p) = rw (ne-eqb kind 0 o, ne-eqb kind 1 p) (first ∙ ap (listed n (has (col b w) q)) (by 2 (omega arith)))
 
 -- SEVERAL CHOICES
-module _ (obf : (g : Graph) (b p q top : ℕ) (w w' : List ℕ) (top' : ℕ) → Sliced g b p q top w w' top' → Obf g p q top (col b w) (col b w') top') where
-  -- what a pivot has done, by either method
-  pub taken-pivoted : {g : Graph} {slicing b p q top : ℕ} {w w' : List ℕ} {top' : ℕ} → Taken g slicing b p q top w w' top' → Pivoted g slicing p q top (col b w) (col b w') top'
-  taken-pivoted {g} {b = b} {p} {q} {top} {w} {w'} {top'} z =
-      ⊎-elim (λ y. inl (y .0, y .1, y .2 .method)) (λ y. inr (y .0, obf g b p q top w w' top' (y .1))) (z .how)
+-- what a pivot has done, by either method
+pub taken-pivoted : {g : Graph} {slicing b p q top : ℕ} {w w' : List ℕ} {top' : ℕ} → Taken g slicing b p q top w w' top' → Pivoted g slicing p q top (col b w) (col b w') top'
+taken-pivoted z = ⊎-elim (λ y. inl (y .0, y .1, y .2 .method)) (λ y. inr (y .0, y .1 .method)) (z .how)
 
-  module _ {g : Graph} {slicing b q kind state top : ℕ} {w : List ℕ} (st : Stage g b top w) where
-    sweeps-whole : {k t : ℕ} {w' : List ℕ} → Sweeps g slicing b q kind state top w k t w' → Whole g b w'
-    sweeps-whole unswept = st .owned .whole
-    sweeps-whole (taken p s l e c z) = z .owned .whole
+module _ {g : Graph} {slicing b q kind state top : ℕ} {w : List ℕ} (st : Stage g b top w) where
+  sweeps-whole : {k t : ℕ} {w' : List ℕ} → Sweeps g slicing b q kind state top w k t w' → Whole g b w'
+  sweeps-whole unswept = st .owned .whole
+  sweeps-whole (taken p s l e c z) = z .owned .whole
 
-    sweeps-ord : {k t : ℕ} {w' : List ℕ} → Sweeps g slicing b q kind state top w k t w' → (i : ℕ) → ord (g .n) b w' i ≡ ord (g .n) b w i
-    sweeps-ord unswept i = refl
-    sweeps-ord (taken p s l e c z) i = z .inside .high (orderAt (g .n) b + i) (omega arith) ∙ sweeps-ord s i
+  sweeps-ord : {k t : ℕ} {w' : List ℕ} → Sweeps g slicing b q kind state top w k t w' → (i : ℕ) → ord (g .n) b w' i ≡ ord (g .n) b w i
+  sweeps-ord unswept i = refl
+  sweeps-ord (taken p s l e c z) i = z .inside .high (orderAt (g .n) b + i) (omega arith) ∙ sweeps-ord s i
 
-    pub sweeps-choices : (list : List ℕ) → Arranged (g .n) (listOf kind list) (ord (g .n) b w) → kind ≤ 2
-        → {k t : ℕ} {w' : List ℕ} → Sweeps g slicing b q kind state top w k t w' → Choices g slicing q kind state list (col b w) top k (col b w') t
-    sweeps-choices list a most unswept = unchosen
-    sweeps-choices list a most (taken {k} {w₁ = w₁} p s l e c z) = choice p (sweeps-choices list a most s)
-        (record {
-          whole = λ u v y (h, d). (same-low (st .tables .valid) y h, sym (sweeps-whole s u v h y) ∙ d);
-          member = (l, e);
-          exact = c ∙ chosen-pivot (g .n) b w₁ list q kind (draws k state) p (arranged-same (sweeps-ord s) a) most l e;
-        })
-        (taken-pivoted z)
+  pub sweeps-choices : (list : List ℕ) → Arranged (g .n) (listOf kind list) (ord (g .n) b w) → kind ≤ 2
+      → {k t : ℕ} {w' : List ℕ} → Sweeps g slicing b q kind state top w k t w' → Choices g slicing q kind state list (col b w) top k (col b w') t
+  sweeps-choices list a most unswept = unchosen
+  sweeps-choices list a most (taken {k} {w₁ = w₁} p s l e c z) = choice p (sweeps-choices list a most s)
+      (record {
+        whole = λ u v y (h, d). (same-low (st .tables .valid) y h, sym (sweeps-whole s u v h y) ∙ d);
+        member = (l, e);
+        exact = c ∙ chosen-pivot (g .n) b w₁ list q kind (draws k state) p (arranged-same (sweeps-ord s) a) most l e;
+      })
+      (taken-pivoted z)
