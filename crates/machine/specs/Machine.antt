@@ -7,14 +7,11 @@ use lib.ListN.{length}
 use lib.Dec.{eqb}
 use Rattle.graph.specs.Graph.{Graph, edges}
 use Rattle.graph.specs.Limits.{mostVertices, mostEdges}
-use Rattle.graph.specs.Pivot.{draws}
 use Rattle.memory.specs.Decomposer.{head, col}
 use Rattle.waiting.specs.declared.Part.{Part}
 use Rattle.waiting.specs.Records.{none}
-use Rattle.pivot.specs.declared.chooser.Chooser.{Chooser}
 use Rattle.machine.specs.declared.Machine.{Machine}
-use Rattle.split.specs.State.{labelled, rings}
-use Rattle.parts.specs.Divide.{DivideAsk, Handed}
+use Rattle.parts.specs.Divide.{DivideAsk, Division}
 use Rattle.machine.specs.Aim.{wrapped, aimed}
 
 -- where the indexes end: the regions of the parts start here
@@ -91,13 +88,6 @@ pub record Whole (n b h top : ℕ) (w : List ℕ) : Type 0 where
   pub colours : (v : ℕ) → v < n → col b w v ≡ n
   pub first : top ≡ n + 1
 
--- the part at h was divided with k draws: by method 0, or the whole by method 1
-pub data Cut (g : Graph) (b : ℕ) (c : Chooser) (h top slicing : ℕ) (w ws w' ws' : List ℕ) (state k top' children : ℕ) : Type 0 where
-  parted : Handed g b h top w ws w' ws' top' children → state ≡ draws k (c .state) → ((c .kind ≡ 1 → ⊥) → k ≡ 0)
-      → (c .kind ≡ 1 → rings g b w' ≤ rings g b w + k) → labelled g b w + k ≤ labelled g b w' → labelled g b w < labelled g b w' → Cut g b c h top slicing w ws w' ws' state k top' children
-  sliced : Handed g b h top w ws w' ws' top' children → state ≡ draws k (c .state) → ((c .kind ≡ 1 → ⊥) → k ≡ 0)
-      → (c .kind ≡ 1 → rings g b w' ≤ rings g b w + k) → k ≤ g .n → slicing ≡ 1 → Cut g b c h top slicing w ws w' ws' state k top' children
-
 pub record CutAsk (g : Graph) (b : ℕ) (p : Part) (top : ℕ) (w ws : List ℕ) : Type 0 where
   pub ask : DivideAsk g b (p .first) top w ws
   pub whole : p .slicing ≡ 1 → Whole (g .n) b (p .first) top w
@@ -133,7 +123,7 @@ pub data Stepped (g : Graph) (p : Part) (s : Machine) (num wor : List ℕ) : Lis
   clears : s .cleared < g .n → Stepped g p s num wor num wor (aimed (g .n) (clearing s))
   hands : g .n ≤ s .cleared → s .given < s .pending → Stepped g p s num wor num wor (aimed (g .n) (handing (g .n) (base g) num s))
   divides : {num' wor' : List ℕ} {state k top children : ℕ} → g .n ≤ s .cleared → s .pending ≤ s .given
-      → Cut g (base g) (s .chooser) (p .first) (s .top) (p .slicing) num wor num' wor' state k top children
+      → Division g (p .slicing) (base g) (s .chooser .kind) (s .chooser .state) (p .first) (s .top) num wor num' wor' state k top children
       → Stepped g p s num wor num' wor' (aimed (g .n) (dividing (g .n) s state k top children))
 
 -- the record is to be divided

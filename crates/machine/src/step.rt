@@ -2,8 +2,9 @@
 ghost use mathlib.Core.Path.{_≡_};
 ghost use Prim.Native.Nat.{_+_, _*_};
 ghost use Rattle.graph.specs.Arrows.{SomeOf, EveryOf};
+ghost use Rattle.parts.specs.Divide.{Division};
 ghost use Rattle.machine.specs.Aim.{aimed as aimedAt};
-ghost use Rattle.machine.specs.Machine.{base, clearing, handing, ClearAsk, HandAsk, CutAsk, Cut, PartAsk, StepAsk, Stepped, olderThan};
+ghost use Rattle.machine.specs.Machine.{base, clearing, handing, ClearAsk, HandAsk, CutAsk, PartAsk, StepAsk, Stepped, olderThan};
 use crate::Machine;
 use parts::divide;
 use parts::divide::Divided;
@@ -56,7 +57,7 @@ fn cut(
     top: usize,
 ) -> Divided
     requires { ⌜ SomeOf n m (λ g. CutAsk g (base g) part top (now numbers) (now words)) ⌝ }
-    ensures { λ r. ⌜ EveryOf n m (λ g. CutAsk g (base g) part top (now (numbers .entry)) (now (words .entry)) → Cut g (base g) chooser (part .first) top (part .slicing) (now (numbers .entry)) (now (words .entry)) (now (numbers .exit)) (now (words .exit)) (r .state) (r .draws) (r .top) (r .children)) ⌝ }
+    ensures { λ r. ⌜ EveryOf n m (λ g. CutAsk g (base g) part top (now (numbers .entry)) (now (words .entry)) → Division g (part .slicing) (base g) (chooser .kind) (chooser .state) (part .first) top (now (numbers .entry)) (now (words .entry)) (now (numbers .exit)) (now (words .exit)) (r .state) (r .draws) (r .top) (r .children)) ⌝ }
 {
     let b = 2 * (n + 1 + m);
     divide::divide(

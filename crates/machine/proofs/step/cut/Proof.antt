@@ -1,5 +1,5 @@
 use borrow.Author.Needs.{needs}
-use Rattle.machine.proofs.Cutting.{cut-ask, cut-divided}
+use Rattle.machine.proofs.Cutting.{cut-ask}
 use Rattle.machine.proofs.step.cut.Statement.{statement}
 use Rattle.machine.proofs.step.cut.Tie as tie
 
@@ -20,4 +20,4 @@ cut-spec =
     (λ c κs. ((begins (c .before .before)) .pre .0, cut-ask ((begins (c .before .before)) .pre .1)))
     (λ c. search needs)
     (λ c. search needs)
-    (λ c. λ e a. cut-divided ((divided (c .before)) .divide .ensures e (cut-ask a))))
+    (λ c. λ e a. (divided (c .before)) .divide .ensures e (cut-ask a)))

@@ -1,7 +1,7 @@
 use native.Mathlib.Omega.{arith}
 use borrow.Author.Needs.{needs}
 use Rattle.machine.specs.Machine.{ClearAsk, divides}
-use Rattle.machine.proofs.Cutting.{taken-part, cut-draws, older-low}
+use Rattle.machine.proofs.Cutting.{taken-part, drawn-most, older-low}
 use Rattle.machine.proofs.step.take.Statement.{statement}
 use Rattle.machine.proofs.step.take.Tie as tie
 
@@ -22,7 +22,7 @@ add-made : tie.Need-add-made
 add-made c =
     let x = cut (c .before .before) in
     let (g, a) = start (x .before) .pre in
-    omega (arith, cut-draws (x .cut .ensures g (taken-part a)), a .ask .made, a .ask .small)
+    omega (arith, drawn-most (x .cut .ensures g (taken-part a)), a .ask .made, a .ask .small)
 
 sub-count : tie.Need-sub-count
 sub-count c = let a = given c .pre .1 in omega (arith, a .ask .part (a .cleared) (a .given) .0)
