@@ -2,10 +2,11 @@
 use Prim.Native.Nat.{ℕ, _+_, _-_, _≤_, _<_}
 use native.Mathlib.Omega.{arith}
 use native.Mathlib.Decide.{decLt, ℕ-discrete}
-use mathlib.Core.Path.{_≡_, ap, _∙_}
-use mathlib.Core.Bool.{cond}
+use mathlib.Core.Path.{_≡_, sym, ap, subst, _∙_}
+use mathlib.Core.Bool.{Bool, cond}
 use lib.Dec.{eqb}
 use borrow.Author.Tests.{lt-ltb, le-ltb, eq-eqb, ne-eqb}
+use Rattle.graph.specs.Apart.{next, other}
 use Rattle.machine.specs.declared.Machine.{Machine}
 use Rattle.machine.specs.Aim.{wrapped, ring, aim, goes}
 use Rattle.machine.specs.Machine.{dividing}
@@ -81,28 +82,21 @@ pub record Takes (n : ℕ) (s : Machine) (t : ℕ) (m : ℕ → ℕ) : Type 0 wh
   pub without : Without (s .count) t m
   pub moved : (state k top children i : ℕ) → i + 1 < s .count → ring n (dividing n s state k top children) i ≡ ring n s (m i)
 
-pub takes : (n : ℕ) (s : Machine) → s .oldest < n → s .count ≤ n → n ≤ s .cleared → s .pending ≤ s .given → 0 < s .count → (t : ℕ) × (m : ℕ → ℕ) × Takes n s t m
-takes n s o f a b c = elim (ℕ-discrete (s .order) 0) as (λ _. (t : ℕ) × (m : ℕ → ℕ) × Takes n s t m) [
-  | yes d ↦ (
-    s .count - 1,
-    λ i. i,
-    record {
-      low = omega arith;
-      here = aim-newest n s a b c d;
-      without = without-last (s .count) c;
-      moved = λ state k top ch i l. ap (λ (x : ℕ). wrapped n (x + i)) (newest d);
-    },
-  )
-  | no d ↦ (
-    0,
-    λ i. i + 1,
-    record {
-      low = c;
-      here = aim-oldest n s a b c d ∙ omega (arith, wrapped-same n (s .oldest + 0) (omega arith));
-      without = without-first (s .count);
-      moved = λ state k top ch i l. ap (λ (x : ℕ). wrapped n (x + i)) (oldest d) ∙ wrapped-next n (s .oldest) i o (omega arith);
-    },
-  )
+-- as the order says
+pub takes : (n : ℕ) (s : Machine) → s .oldest < n → s .count ≤ n → n ≤ s .cleared → s .pending ≤ s .given → 0 < s .count → Takes n s (next (s .order) (s .count)) (other (s .order))
+takes n s o f a b c = elim (ℕ-discrete (s .order) 0) as (λ _. Takes n s (next (s .order) (s .count)) (other (s .order))) [
+  | yes d ↦ subst (λ (q : Bool). Takes n s (cond q (s .count - 1) 0) (λ i. cond q i (i + 1))) (sym (eq-eqb (s .order) 0 d)) (record {
+    low = omega arith;
+    here = aim-newest n s a b c d;
+    without = without-last (s .count) c;
+    moved = λ state k top ch i l. ap (λ (x : ℕ). wrapped n (x + i)) (newest d);
+  })
+  | no d ↦ subst (λ (q : Bool). Takes n s (cond q (s .count - 1) 0) (λ i. cond q i (i + 1))) (sym (ne-eqb (s .order) 0 d)) (record {
+    low = c;
+    here = aim-oldest n s a b c d ∙ omega (arith, wrapped-same n (s .oldest + 0) (omega arith));
+    without = without-first (s .count);
+    moved = λ state k top ch i l. ap (λ (x : ℕ). wrapped n (x + i)) (oldest d) ∙ wrapped-next n (s .oldest) i o (omega arith);
+  })
 ]
   where
     newest : s .order ≡ 0 → cond (eqb (s .order) 0) (s .oldest) (wrapped n (s .oldest + 1)) ≡ s .oldest

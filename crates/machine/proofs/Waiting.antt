@@ -6,6 +6,7 @@ use mathlib.Core.Path.{_≡_, refl, sym, ap, _∙_}
 use mathlib.Core.Logic.{_⊎_, inl, inr, ⊎-elim}
 use mathlib.Core.List.{List}
 use Rattle.graph.specs.Graph.{Graph}
+use Rattle.graph.specs.Apart.{other, ListAfter}
 use Rattle.graph.specs.Numbers.{table}
 use Rattle.graph.proofs.Tests.{getD-table}
 use Rattle.memory.specs.Decomposer.{col, ord, own, nxt, head, orderAt}
@@ -71,13 +72,13 @@ module _ {g : Graph} {b top k : ℕ} {h : ℕ → ℕ} {w : List ℕ} (z : Waits
   own-same i a e = ap (col b w') (ord-same i) ∙ v .others (ord (g .n) b w i) (z .stage .placed .low i a) e
 
   -- a place whose part is neither new nor a label was in another part, and is as it was
-  other : (i : ℕ) → i < g .n → g .n ≤ own (g .n) b w' i → own (g .n) b w' i < top → own (g .n) b w i ≡ own (g .n) b w (h t) → ⊥
-  other i a p q e =
+  elsewhere : (i : ℕ) → i < g .n → g .n ≤ own (g .n) b w' i → own (g .n) b w' i < top → own (g .n) b w i ≡ own (g .n) b w (h t) → ⊥
+  elsewhere i a p q e =
       let s : own (g .n) b w' i ≡ col b w' (ord (g .n) b w i) = ap (col b w') (ord-same i) in
       ⊎-elim (λ r. omega (arith, r)) (λ r. omega (arith, r)) (v .ours (ord (g .n) b w i) (z .stage .placed .low i a) e)
 
   old : (i : ℕ) → i < g .n → g .n ≤ own (g .n) b w' i → own (g .n) b w' i < top → own (g .n) b w' i ≡ own (g .n) b w i
-  old i a p q = own-same i a (other i a p q)
+  old i a p q = own-same i a (elsewhere i a p q)
 
   below : (i : ℕ) → i < g .n → own (g .n) b w i < top
   below i a = z .stage .owned .below (ord (g .n) b w i) (z .stage .placed .low i a)
@@ -86,10 +87,10 @@ module _ {g : Graph} {b top k : ℕ} {h : ℕ → ℕ} {w : List ℕ} (z : Waits
   old-next i a p q =
       let e : own (g .n) b w' i ≡ own (g .n) b w i = old i a p q in
       let f : Follows (g .n) (own (g .n) b w) i (nxt (g .n) b w i) = z .next i a (omega (arith, e)) in
-      rw (v .rest i a (other i a p q)) (record {
+      rw (v .rest i a (elsewhere i a p q)) (record {
         more = f .more;
         most = f .most;
-        same = λ c. own-same (nxt (g .n) b w i) c (λ r. other i a p q (sym (f .same c) ∙ r)) ∙ f .same c ∙ sym e;
+        same = λ c. own-same (nxt (g .n) b w i) c (λ r. elsewhere i a p q (sym (f .same c) ∙ r)) ∙ f .same c ∙ sym e;
         none = λ x c y s. let u = old x (omega (arith, f .most)) (omega (arith, s)) (omega (arith, s)) in f .none x c y (sym u ∙ s ∙ e);
       })
 
@@ -137,7 +138,7 @@ module _ {g : Graph} {b top k : ℕ} {h : ℕ → ℕ} {w : List ℕ} (z : Waits
       | yes q ↦
           let e = old u a p q in
           let (i, c, s) = z .all u a (omega arith) in
-          let (j, y, r) = o .all i c (λ x. other u a p q (sym s ∙ ap (λ (x : ℕ). own (g .n) b w (h x)) x)) in
+          let (j, y, r) = o .all i c (λ x. elsewhere u a p q (sym s ∙ ap (λ (x : ℕ). own (g .n) b w (h x)) x)) in
           (j, omega arith, ap (own (g .n) b w') (front j y) ∙ rest-same j y ∙ ap (λ (x : ℕ). own (g .n) b w (h x)) r ∙ s ∙ sym e)
       | no q ↦
           let (j, c, s) = v .all u a (omega arith) in
@@ -177,3 +178,26 @@ module _ {g : Graph} {b top k : ℕ} {h : ℕ → ℕ} {w : List ℕ} (z : Waits
           all = all;
           one = λ i j a c e. one i j (which i a) (which j c) e;
         }
+
+    -- the list after it, as the order says which were the others
+    pub list-divided : (order : ℕ) → ((i : ℕ) → m i ≡ other order i)
+        → ListAfter (g .n) order top k (λ i. own (g .n) b w (h i)) (col b w') k' (λ i. own (g .n) b w' (h' i))
+    list-divided order s =
+        record {
+          front = λ i a. (omega (arith, a, sum), ap (own (g .n) b w') (front i a) ∙ rest-same i a ∙ ap (λ (x : ℕ). own (g .n) b w (h x)) (s i));
+          new = λ i a c. new i (which i c) a;
+          all = each;
+          once = λ i j a c e. one i j (which i a) (which j c) e;
+        }
+      where
+        new : (i : ℕ) → Which i → k ≤ i + 1 → (top ≤ own (g .n) b w' (h' i)) × ((u : ℕ) × (u < g .n) × (col b w' u ≡ own (g .n) b w' (h' i)))
+        new i (inl a) c = absurd (omega arith)
+        new i (inr (j, a, e)) c =
+            let (f, q) = v .heads j a in
+            rw (new-is i j a e) (q, (ord (g .n) b w' (head (g .n) b w' j), v .stage .placed .low (head (g .n) b w' j) (f .low), refl))
+
+        each : (u : ℕ) → u < g .n → top ≤ col b w' u → (i : ℕ) × (k ≤ i + 1) × (i < k') × (own (g .n) b w' (h' i) ≡ col b w' u)
+        each u a q =
+            let (x, y, e) = v .stage .placed .all u a in
+            let (j, c, f) = v .all x y (rw e q) in
+            (k - 1 + j, omega arith, omega (arith, sum), ap (own (g .n) b w') (back j c) ∙ f ∙ ap (col b w') e)
