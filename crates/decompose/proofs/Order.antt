@@ -4,18 +4,10 @@ use native.Mathlib.Omega.{arith}
 use mathlib.Core.List.{List}
 use Rattle.graph.specs.Graph.{Graph}
 use Rattle.pivot.specs.Order.{Arranged}
-use Rattle.pivot.specs.declared.chooser.Chooser.{Chooser}
 use Rattle.memory.specs.Decomposer.{ord, orderAt}
 use Rattle.parts.specs.Divide.{Handed}
-use Rattle.machine.specs.Machine.{Cut, parted, sliced}
 use Rattle.decompose.proofs.Starting.{arranged-same}
 
 pub order-kept : {g : Graph} {b h top : ℕ} {w ws w' ws' : List ℕ} {top' children : ℕ} (list : List ℕ)
     → Handed g b h top w ws w' ws' top' children → Arranged (g .n) list (ord (g .n) b w) → Arranged (g .n) list (ord (g .n) b w')
 order-kept {g} {b} list v a = arranged-same (λ i. v .high (orderAt (g .n) b + i) (omega arith)) a
-
--- by either method
-pub cut-order : {g : Graph} {b : ℕ} {c : Chooser} {h top slicing : ℕ} {w ws w' ws' : List ℕ} {state k top' children : ℕ} (list : List ℕ)
-    → Cut g b c h top slicing w ws w' ws' state k top' children → Arranged (g .n) list (ord (g .n) b w) → Arranged (g .n) list (ord (g .n) b w')
-cut-order list (parted v d x y f o) a = order-kept list v a
-cut-order list (sliced v d x y f o) a = order-kept list v a

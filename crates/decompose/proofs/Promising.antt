@@ -12,11 +12,12 @@ use Rattle.graph.specs.Graph.{Graph, Valid, IsLabel, graph}
 use Rattle.graph.specs.Numbers.{many}
 use Rattle.memory.specs.Memory.{ClearAsk}
 use Rattle.graph.specs.Pivot.{draws}
+use Rattle.graph.specs.Apart.{Course, whole, TakenApart}
 use Rattle.graph.specs.Summary.{sharing, summary}
 use Rattle.graph.proofs.Certificate.{right-unique}
 use Rattle.memory.proofs.Memory.{zeroed-after}
 use Rattle.graph.proofs.Counts.{many-le, many-mono, many-place}
-use Rattle.memory.specs.Decomposer.{col, own, head}
+use Rattle.memory.specs.Decomposer.{col, ord, own, head}
 use Rattle.split.specs.State.{ring, rings}
 use Rattle.split.proofs.Rings.{is-ring}
 use Rattle.waiting.specs.declared.Part.{Part}
@@ -27,8 +28,8 @@ use Rattle.decompose.specs.declared.finish.Answer.{Answer}
 use Rattle.decompose.specs.declared.finish.Answer.the-variants.{Done, Refused}
 use Rattle.machine.specs.Aim.{aim, goes, aimed}
 use Rattle.machine.specs.Machine.{base}
-use Rattle.machine.specs.Waits.{firstOf}
-use Rattle.decompose.specs.Running.{Slicing, Running, Went}
+use Rattle.machine.specs.Waits.{waitingCount, firstOf}
+use Rattle.decompose.specs.Running.{Unsliced, Running, Traced, Went}
 use Rattle.decompose.specs.Turns.{DriveAsk, Ran, idle, ran, Driven}
 use Rattle.decompose.specs.Begin.{Started, idleWith, firstOne, Begun, refused, nothing, begun}
 use Rattle.decompose.specs.Finish.{Room, FinishAsk, Ended, refusing, doing}
@@ -38,6 +39,7 @@ use Rattle.machine.proofs.Waiting.{waits-same}
 use Rattle.machine.proofs.Aiming.{goes-clear, stopped}
 use Rattle.decompose.proofs.Accepting.{Accepted, accepted}
 use Rattle.decompose.proofs.Starting.{rings-begin}
+use Rattle.decompose.proofs.Coursing.{drawn-first, apart-unlisted, apart-none}
 
 -- the machine before its first turn
 module _ {n : ℕ} {src tgt : List ℕ} {method order : ℕ} {c : Chooser} {list num wor num' wor' : List ℕ} {lab parts len len' : ℕ}
@@ -56,7 +58,7 @@ module _ {n : ℕ} {src tgt : List ℕ} {method order : ℕ} {c : Chooser} {list
         early = λ q. refl;
         zeros = λ j h. absurd (not-suc-le-zero h);
         flags = λ i h. absurd (not-suc-le-zero h);
-        whole = elim (ℕ-discrete method 0) as (λ _. (method ≡ 0) ⊎ Slicing n (base (graph n src tgt)) ys num' (aimed n (firstOne n method order c))) [
+        whole = elim (ℕ-discrete method 0) as (λ _. (method ≡ 0) ⊎ Unsliced n (base (graph n src tgt)) ys num' (aimed n (firstOne n method order c))) [
           | yes q ↦ inl q
           | no q ↦ inr (record { one = omega (arith, a .known-method); alone = refl; whole = st .whole; made = refl })
         ];
@@ -74,6 +76,17 @@ module _ {n : ℕ} {src tgt : List ℕ} {method order : ℕ} {c : Chooser} {list
       same : (i : ℕ) → i < 1 → firstOf n (base (graph n src tgt)) ys num' (aimed n (firstOne n method order c)) i ≡ head n (base (graph n src tgt)) num' i
       same i h = let x : i ≡ 0 = omega arith in rw x refl
 
+  -- the course begins with the whole
+  begun-traced : Traced (graph n src tgt) method c list ys num' (aimed n (firstOne n method order c))
+  begun-traced =
+      record {
+        known = a .known-kind;
+        order = st .order;
+        choices = 0;
+        course = whole (st .whole .colours) (st .whole .colours (ord n (base (graph n src tgt)) num' (head n (base (graph n src tgt)) num' 0)) (st .order .low (head n (base (graph n src tgt)) num' 0) (st .waits .first 0 (omega arith) .low)));
+        drawn = drawn-first (eqb (c .kind) 1);
+      }
+
 -- the drive may begin
 pub begun-drive : {n : ℕ} {src tgt : List ℕ} {method order : ℕ} {c : Chooser} {list : List ℕ} {lab : ℕ} {num wor num' wor' : List ℕ} {s : Machine} {ys : List Part}
     → Begun n src tgt method order c list (length ys) lab num wor num' wor' s → DriveAsk (graph n src tgt) ys num' wor' s
@@ -89,7 +102,7 @@ pub record Lengths (num wor num' wor' : List ℕ) (s e : Machine) : Type 0 where
 
 ran-lengths : {g : Graph} {ys ys' : List Part} {num wor num' wor' : List ℕ} {s e : Machine} → Ran g ys num wor s ys' num' wor' e → Lengths num wor num' wor' s e
 ran-lengths (idle z) = record { numbers = refl; words = refl; refusal = refl }
-ran-lengths (ran p r w) = record { numbers = w .numbers-long; words = w .words-long; refusal = w .refusal }
+ran-lengths (ran p r w f) = record { numbers = w .numbers-long; words = w .words-long; refusal = w .refusal }
 
 -- what the beginning says of the end
 pub record Accepting (n m : ℕ) (lab num wor num₁ wor₁ : List ℕ) (s : Machine) : Type 0 where
@@ -141,6 +154,23 @@ module _ {g : Graph} {c : Chooser} {ys : List Part} {num wor : List ℕ} {e : Ma
   ended-most : e .made ≤ 2 * g .n
   ended-most = omega (arith, r .most, many-le (λ v. ltb (col (base g) num v) (g .n)) (g .n))
 
+  -- and the course has come to its end
+  ended-course : {method order : ℕ} {list : List ℕ} (lab : List ℕ) → ((v : ℕ) → v < g .n → getD lab v 0 ≡ col (base g) num v) → e .order ≡ order → (t : Traced g method c list ys num e)
+      → TakenApart g method order (c .kind) (c .state) list lab (t .choices)
+  ended-course {method} {order} {list} lab are o t =
+      record {
+        slicing = e .slicing;
+        top = e .top;
+        own = col (base g) num;
+        part = λ i. own (g .n) (base g) num (firstOf (g .n) (base g) ys num e i);
+        course = subst (λ (x : ℕ). Course g method x (c .kind) (c .state) list (e .slicing) (col (base g) num) (e .top) 0 (λ i. own (g .n) (base g) num (firstOf (g .n) (base g) ys num e i)) (t .choices)) o
+            (subst (λ (x : ℕ). Course g method (e .order) (c .kind) (c .state) list (e .slicing) (col (base g) num) (e .top) x (λ i. own (g .n) (base g) num (firstOf (g .n) (base g) ys num e i)) (t .choices)) none-left (t .course));
+        labels = are;
+      }
+    where
+      none-left : waitingCount e ≡ 0
+      none-left = omega (arith, stops .1, stops .2)
+
   module _ (lab : List ℕ) (long : length lab ≡ g .n) (are : (v : ℕ) → v < g .n → getD lab v 0 ≡ col (base g) num v) where
     -- a label that two share is a ring
     shared : (l : ℕ) → l < g .n → T (leb 2 (sharing lab l)) → T (ring (g .n) (col (base g) num) l)
@@ -180,12 +210,15 @@ nothing-met : {n : ℕ} {src tgt : List ℕ} {method order : ℕ} {c : Chooser} 
     → Ended n (length src) lab num wor (idleWith 0 c) lab₃ num₃ wor₃ a → Promise (call n src tgt method order c list ys lab num wor) (after c ys lab₃ num₃ wor₃) a
 unfolding draws summary
 nothing-met q e (refusing x) = absurd (x refl)
-nothing-met {n} {lab₃ = lab₃} q e (doing x cp z) =
+nothing-met {n} {method = method} {order} {c} {list} {lab₃ = lab₃} q e (doing x cp z) =
     let k = accepted q in
     record {
       refusal = sym q;
       gives = record {
         label = right-unique (k .valid) lab₃ (cp .long ∙ k .label) (λ v l. absurd (omega arith));
+        choices = 0;
+        course = apart-none method order (c .kind) (c .state) list lab₃ e;
+        drawn = drawn-first (eqb (c .kind) 1);
         never = λ z. refl;
         least = λ z. omega (arith, many-le (λ l. leb 2 (sharing lab₃ l)) n);
         most = omega arith;
@@ -200,16 +233,20 @@ nothing-met {n} {lab₃ = lab₃} q e (doing x cp z) =
 -- the machine ran
 ran-met : {n : ℕ} {src tgt : List ℕ} {method order : ℕ} {c : Chooser} {list lab : List ℕ} {num wor num₁ wor₁ num₂ wor₂ : List ℕ} {e : Machine} {ys ys₂ : List Part} {lab₃ num₃ wor₃ : List ℕ} {a : Answer}
     → refusalOf n src tgt method order (c .kind) (length lab) (length ys) (length num) (length wor) ≡ 0 → Started (graph n src tgt) (c .kind) list num wor num₁ wor₁
-    → Running (graph n src tgt) c ys₂ num₂ wor₂ e → Went n (length src) ys num₁ wor₁ (aimed n (firstOne n method order c)) ys₂ num₂ wor₂ e → e .go ≡ 0
+    → Running (graph n src tgt) c ys₂ num₂ wor₂ e → Went n (length src) ys num₁ wor₁ (aimed n (firstOne n method order c)) ys₂ num₂ wor₂ e
+    → Traced (graph n src tgt) method c list ys₂ num₂ e → e .go ≡ 0
     → Ended n (length src) lab num₂ wor₂ e lab₃ num₃ wor₃ a → Promise (call n src tgt method order c list ys lab num wor) (after (e .chooser) ys₂ lab₃ num₃ wor₃) a
-ran-met q st r w d (refusing x) = absurd (x (w .refusal))
-ran-met {n} {src} {tgt} {c = c} {num₂ = num₂} {lab₃ = lab₃} q st r w d (doing x cp z) =
+ran-met q st r w t d (refusing x) = absurd (x (w .refusal))
+ran-met {n} {src} {tgt} {c = c} {num₂ = num₂} {lab₃ = lab₃} q st r w t d (doing x cp z) =
     let k = accepted q in
     let copied : (v : ℕ) → v < n → getD lab₃ v 0 ≡ col (base (graph n src tgt)) num₂ v = λ v l. cp .each v (omega (arith, k .label)) in
     record {
       refusal = sym q;
       gives = record {
         label = right-unique (k .valid) lab₃ (cp .long ∙ k .label) (λ v l. rw (copied v l) (ended-label r d (k .valid) v l));
+        choices = t .choices;
+        course = ended-course r d (k .valid) lab₃ copied (w .order) t;
+        drawn = t .drawn;
         never = r .still;
         least = λ z. omega (arith, r .drawn z, ended-rings r d (k .valid) lab₃ (cp .long ∙ k .label) copied);
         most = ended-most r d (k .valid);
@@ -225,11 +262,11 @@ met : {n : ℕ} {src tgt : List ℕ} {method order : ℕ} {c : Chooser} {list la
     → Begun n src tgt method order c list (length ys) (length lab) num wor num₁ wor₁ s → Ran (graph n src tgt) ys num₁ wor₁ s ys₂ num₂ wor₂ e → e .go ≡ 0
     → Ended n (length src) lab num₂ wor₂ e lab₃ num₃ wor₃ a → Promise (call n src tgt method order c list ys lab num wor) (after (e .chooser) ys₂ lab₃ num₃ wor₃) a
 met {n} {src} {tgt} {method} {order} {c} {lab = lab} {num = num} {wor = wor} {ys = ys} (refused h) (idle z) d f = refused-met (refusalOf n src tgt method order (c .kind) (length lab) (length ys) (length num) (length wor)) refl h f
-met (refused h) (ran p r w) d f = absurd (not-suc-le-zero p)
+met (refused h) (ran p r w t) d f = absurd (not-suc-le-zero p)
 met (nothing q e) (idle z) d f = nothing-met q e f
-met (nothing q e) (ran p r w) d f = absurd (not-suc-le-zero p)
+met (nothing q e) (ran p r w t) d f = absurd (not-suc-le-zero p)
 met {n} {method = method} {order = order} {c = c} (begun q p st) (idle z) d f = absurd (omega (arith, goes-clear n (firstOne n method order c) p))
-met (begun q p st) (ran x r w) d f = ran-met q st r w d f
+met {method = method} {list = list} {ys = ys} (begun q p st) (ran x r w t) d f = let a = accepted q in ran-met q st r w (t method list (begun-traced a p st refl ys (a .waiting))) d f
 
 -- the calls of the decomposer, one after the other: the chooser is copied, and put back as the machine leaves it
 pub promised : {n : ℕ} {src tgt : List ℕ} {method order : ℕ} {c x c₂ : Chooser} {list lab : List ℕ} {num wor num₁ wor₁ num₂ wor₂ : List ℕ} {s e : Machine} {ys ys₂ : List Part} {lab₃ num₃ wor₃ : List ℕ} {a : Answer}
@@ -239,12 +276,12 @@ promised {n} {src} {tgt} {method} {order} {list = list} {lab} {num} {wor} {num�
     rw p (met (subst (λ (y : Chooser). Begun n src tgt method order y list (length ys) (length lab) num wor num₁ wor₁ s) q b) (d .run) (d .done) f)
 
 -- kind 0 reads no list of vertices
-unlisted : {n : ℕ} {src tgt : List ℕ} {c : Chooser} {list lab num wor : List ℕ} {ys : List Part} {o : After} (a : Answer) → Promise (call n src tgt 0 0 c list ys lab num wor) o a → Promise (call n src tgt 0 0 c [] ys lab num wor) o a
+unlisted : {n : ℕ} {src tgt list lab num wor : List ℕ} {ys : List Part} {o : After} (a : Answer) → Promise (call n src tgt 0 0 still list ys lab num wor) o a → Promise (call n src tgt 0 0 still [] ys lab num wor) o a
 unlisted (Done d) p =
     let f = p .gives in
     record {
       refusal = p .refusal;
-      gives = record { label = f .label; never = f .never; least = f .least; most = f .most; state = f .state; kind = f .kind; waiting = f .waiting; numbers = f .numbers; words = f .words };
+      gives = record { label = f .label; choices = f .choices; course = apart-unlisted (f .course); drawn = f .drawn; never = f .never; least = f .least; most = f .most; state = f .state; kind = f .kind; waiting = f .waiting; numbers = f .numbers; words = f .words };
     }
 unlisted (Refused k) p =
     let f = p .gives in

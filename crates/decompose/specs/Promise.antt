@@ -1,7 +1,7 @@
 -- The decomposer as callers see it.
 use Prim.Native.Nat.{ℕ, _*_, _≤_, _<_}
 use mathlib.Core.Path.{_≡_}
-use mathlib.Core.Bool.{not, _||_}
+use mathlib.Core.Bool.{cond, not, _||_}
 use mathlib.Core.List.{List}
 use lib.ListN.{length, getD}
 use lib.Dec.{eqb, ltb}
@@ -11,6 +11,7 @@ use Rattle.memory.specs.Memory.{Zeroed}
 use Rattle.graph.specs.Pivot.{draws}
 use Rattle.graph.specs.Refusal.{given, _or_, tableRefusal, lacking}
 use Rattle.graph.specs.Search.{labels}
+use Rattle.graph.specs.Apart.{TakenApart}
 use Rattle.graph.specs.Summary.{summary}
 use Rattle.waiting.specs.declared.Part.{Part}
 use Rattle.waiting.specs.Records.{none}
@@ -71,9 +72,12 @@ pub record Emptied (k : ℕ) (ys ys' : List Part) : Type 0 where
   pub front : (j : ℕ) → j < k → getD ys' j none ≡ none
   pub rest : (j : ℕ) → k ≤ j → getD ys' j none ≡ getD ys j none
 
--- done with d draws: the labels; kind 1 draws for each component of two or more and at most 2 × n times, the others never
+-- done with d draws: the labels, by the course of the method; kind 1 draws once for every choice, for each component of two or more and at most 2 × n times, the others never
 pub record Finished (c : Call) (a : After) (d : ℕ) : Type 0 where
   pub label : a .label ≡ labels (graph (c .n) (c .sources) (c .targets))
+  pub choices : ℕ
+  pub course : TakenApart (graph (c .n) (c .sources) (c .targets)) (c .method) (c .order) (c .chooser .kind) (c .chooser .state) (c .list) (a .label) choices
+  pub drawn : d ≡ cond (eqb (c .chooser .kind) 1) choices 0
   pub never : (c .chooser .kind ≡ 1 → ⊥) → d ≡ 0
   pub least : c .chooser .kind ≡ 1 → summary (c .n) (a .label) .rings ≤ d
   pub most : d ≤ 2 * c .n

@@ -1,0 +1,139 @@
+-- The course of a decomposition: how a division carries it on, and what it says of each choice.
+use Prim.Native.Nat.{ℕ, zero, suc, _+_, _-_, _≤_, _<_}
+use native.Mathlib.Omega.{arith}
+use native.Mathlib.Decide.{decLt, ℕ-discrete}
+use native.Mathlib.Nat.{not-suc-le-zero}
+use mathlib.Core.Path.{_≡_, refl, sym, ap, subst, _∙_}
+use mathlib.Core.Bool.{Bool, true, false, cond}
+use mathlib.Core.Logic.{_⊎_, inl, inr}
+use mathlib.Core.List.{List, []}
+use lib.Dec.{eqb}
+use borrow.Author.Tests.{eq-eqb, ne-eqb}
+use Rattle.graph.specs.Graph.{Graph}
+use Rattle.graph.specs.Pivot.{draw, draws, pivot, listOf}
+use Rattle.graph.specs.Apart.{Alike, In, Choice, Choices, unchosen, choice, Trims, Divides, next, ListAfter, Course, whole, onward, TakenApart}
+use Rattle.memory.specs.Decomposer.{col, ord, own}
+use Rattle.pivot.specs.Order.{Arranged}
+use Rattle.split.specs.State.{Stage}
+use Rattle.parts.specs.Divide.{Division}
+
+pub division-divides : {g : Graph} {slicing b kind state h top : ℕ} {w ws w' ws' : List ℕ} {state' k top' children : ℕ} (list : List ℕ) → Stage g b top w
+    → (d : Division g slicing b kind state h top w ws w' ws' state' k top' children) → Arranged (g .n) (listOf kind list) (ord (g .n) b w) → kind ≤ 2
+    → Divides g slicing (own (g .n) b w h) kind state list (col b w) top (d .pivots) (col b w') top'
+division-divides list s d a l = ?
+
+-- draws after draws
+pub draws-more : (j k state : ℕ) → draws j (draws k state) ≡ draws (k + j) state
+unfolding draws
+draws-more zero k state = let e : k ≡ k + zero = omega arith in ap (λ (i : ℕ). draws i state) e
+draws-more (suc j) k state = let e : suc (k + j) ≡ k + suc j = omega arith in ap draw (draws-more j k state) ∙ ap (λ (i : ℕ). draws i state) e
+
+-- the same choices from either state and either list
+abbrev pub Agree : (kind state state' : ℕ) → List ℕ → List ℕ → Type 0
+Agree kind state state' list list' = (n : ℕ) (p : ℕ → Bool) (i : ℕ) → pivot n p kind (draws i state) list ≡ pivot n p kind (draws i state') list'
+
+-- only kind 1 looks at the state, and only kind 2 at the list
+pub agree-drawn : (kind k state₀ : ℕ) {made state : ℕ} (list : List ℕ) → made ≡ cond (eqb kind 1) k 0 → state ≡ draws made state₀ → Agree kind state (draws k state₀) list list
+unfolding pivot
+agree-drawn kind k state₀ {state = state} list e f n p i = elim (ℕ-discrete kind 1) as (λ _. pivot n p kind (draws i state) list ≡ pivot n p kind (draws i (draws k state₀)) list) [
+  | yes q ↦ ap (λ (x : ℕ). pivot n p kind (draws i x) list) (f ∙ ap (λ (x : ℕ). draws x state₀) (e ∙ rw (eq-eqb kind 1 q)))
+  | no q ↦ rw (ne-eqb kind 1 q)
+]
+
+-- kind 1 draws once for every choice, the others never: at the beginning, and after more choices
+pub drawn-first : (t : Bool) → _≡_ {A = ℕ} 0 (cond t 0 0)
+drawn-first true = refl
+drawn-first false = refl
+
+pub drawn-sum : (t : Bool) (j k : ℕ) → cond t j 0 + cond t k 0 ≡ cond t (j + k) 0
+drawn-sum true j k = refl
+drawn-sum false j k = refl
+
+pub agree-unlisted : (state : ℕ) (list list' : List ℕ) → Agree 0 state state list list'
+unfolding pivot
+agree-unlisted state list list' n p i = refl
+
+module _ {g : Graph} {slicing q kind state state' : ℕ} {list list' : List ℕ} (e : Agree kind state state' list list') where
+  choices-agree : {own own' : ℕ → ℕ} {top k top' : ℕ} → Choices g slicing q kind state list own top k own' top' → Choices g slicing q kind state' list' own top k own' top'
+  choices-agree unchosen = unchosen
+  choices-agree (choice {k} p c x y) = choice p (choices-agree c) (record { whole = x .whole; member = x .member; exact = x .exact ∙ e _ _ k }) y
+
+  pub divides-agree : {own own' : ℕ → ℕ} {top k top' : ℕ} → Divides g slicing q kind state list own top k own' top' → Divides g slicing q kind state' list' own top k own' top'
+  divides-agree d = record { ready = d .ready; made = d .made; swept = d .swept; choices = choices-agree (d .choices); end = d .end; gone = d .gone }
+
+-- choice i: from some part, a union of whole components, the pivot that the kind gives for the state after i draws
+abbrev pub Chosen : Graph → (kind state : ℕ) → List ℕ → ℕ → Type 0
+Chosen g kind state list i = (own : ℕ → ℕ) × (q : ℕ) × (p : ℕ) × Choice g own q kind (draws i state) list p
+
+choices-choice : {g : Graph} {kind : ℕ} {list : List ℕ} (state j : ℕ) {slicing q top k top' : ℕ} {own own' : ℕ → ℕ}
+    → Choices g slicing q kind (draws j state) list own top k own' top' → (i : ℕ) → i < k → Chosen g kind state list (j + i)
+choices-choice state j unchosen i l = absurd (not-suc-le-zero l)
+choices-choice {g} {kind} {list} state j {q = q} (choice {k} {own = own} p c x y) i l = elim (decLt i k) as (λ _. Chosen g kind state list (j + i)) [
+  | yes a ↦ choices-choice state j c i a
+  | no a ↦
+      let e : i ≡ k = omega arith in
+      (own, q, p, subst (λ (z : ℕ). Choice g own q kind z list p) (draws-more k j state ∙ ap (λ (z : ℕ). draws (j + z) state) (sym e)) x)
+]
+
+module _ {g : Graph} {method order kind state : ℕ} {list : List ℕ} where
+  -- the parts that wait count by their colours below c
+  pub course-same : {slicing top c k : ℕ} {own part part' : ℕ → ℕ} → ((i : ℕ) → i < c → part' i ≡ part i) → Course g method order kind state list slicing own top c part k → Course g method order kind state list slicing own top c part' k
+  course-same e (whole f h) = whole f (e 0 (omega arith) ∙ h)
+  course-same e (onward c p d l) = onward c p d (record {
+    front = λ i a. let (x, y) = l .front i a in (x, e i x ∙ y);
+    new = λ i a b. rw (e i b) (l .new i a b);
+    all = λ v a b. let (i, x, y, z) = l .all v a b in (i, x, y, e i y ∙ z);
+    once = λ i j a b f. l .once i j a b (sym (e i a) ∙ f ∙ e j b);
+  })
+
+  -- every choice of the course
+  pub course-choice : {slicing top c k : ℕ} {own part : ℕ → ℕ} → Course g method order kind state list slicing own top c part k → (i : ℕ) → i < k → Chosen g kind state list i
+  course-choice (whole f h) i l = absurd (not-suc-le-zero l)
+  course-choice (onward {k = k} {j = j} c p d s) i l = elim (decLt i k) as (λ _. Chosen g kind state list i) [
+    | yes a ↦ course-choice c i a
+    | no a ↦ let e : k + (i - k) ≡ i = omega arith in subst (Chosen g kind state list) e (choices-choice state k (d .choices) (i - k) (omega arith))
+  ]
+
+-- kind 0 reads no list of vertices
+course-unlisted : {g : Graph} {method order state : ℕ} {list list' : List ℕ} {slicing top c k : ℕ} {own part : ℕ → ℕ}
+    → Course g method order 0 state list slicing own top c part k → Course g method order 0 state list' slicing own top c part k
+course-unlisted (whole f h) = whole f h
+course-unlisted {state = state} {list} {list'} (onward {k = k} c p d l) = onward (course-unlisted c) p (divides-agree (agree-unlisted (draws k state) list list') d) l
+
+pub apart-unlisted : {g : Graph} {method order state : ℕ} {list list' label : List ℕ} {k : ℕ} → TakenApart g method order 0 state list label k → TakenApart g method order 0 state list' label k
+apart-unlisted a = record { slicing = a .slicing; top = a .top; own = a .own; part = a .part; course = course-unlisted (a .course); labels = a .labels }
+
+-- with no vertex the whole is empty, and divided by no choice
+pub apart-none : {g : Graph} (method order kind state : ℕ) (list label : List ℕ) → g .n ≡ 0 → TakenApart g method order kind state list label 0
+apart-none {g} method order kind state list label e =
+    record {
+      slicing = 0;
+      top = g .n + 1;
+      own = λ v. g .n;
+      part = λ i. g .n;
+      course = onward {part = λ i. g .n} (whole (λ v l. refl) refl) (omega arith) empty after;
+      labels = λ v l. absurd (omega arith);
+    }
+  where
+    empty : Divides g method (g .n) kind (draws 0 state) list (λ v. g .n) (g .n + 1) 0 (λ v. g .n) (g .n + 1)
+    empty =
+        record {
+          ready = λ v. g .n;
+          made = elim (ℕ-discrete method 1) as (λ _. ((method ≡ 1 → ⊥) × Trims g (g .n) (λ v. g .n) (λ v. g .n)) ⊎ ((method ≡ 1) × Alike (g .n) (λ v. g .n) (λ v. g .n))) [
+            | yes q ↦ inr (q, λ v l. refl)
+            | no q ↦ inl (q, record { stays = λ v l. absurd (omega arith); goes = λ v h. absurd (omega (arith, h .0)); others = λ v l h. refl })
+          ];
+          swept = λ v. g .n;
+          choices = unchosen;
+          end = λ v l. refl;
+          gone = λ v h. omega (arith, h .0);
+        }
+
+    after : ListAfter (g .n) order (g .n + 1) 1 (λ i. g .n) (λ v. g .n) 0 (λ i. g .n)
+    after =
+        record {
+          front = λ i l. absurd (omega arith);
+          new = λ i l h. absurd (not-suc-le-zero h);
+          all = λ v l h. absurd (omega arith);
+          once = λ i j l h. absurd (not-suc-le-zero l);
+        }
