@@ -62,13 +62,13 @@ module _ {g : Graph} {slicing q kind state state' : ℕ} {list list' : List ℕ}
   divides-agree d = record { ready = d .ready; made = d .made; swept = d .swept; choices = choices-agree (d .choices); end = d .end; gone = d .gone }
 
 -- choice i: from some part, a union of whole components, the pivot that the kind gives for the state after i draws
-abbrev pub Chosen : Graph → (kind state : ℕ) → List ℕ → ℕ → Type 0
-Chosen g kind state list i = (own : ℕ → ℕ) × (q : ℕ) × (p : ℕ) × Choice g own q kind (draws i state) list p
+abbrev pub ChoiceAt : Graph → (kind state : ℕ) → List ℕ → ℕ → Type 0
+ChoiceAt g kind state list i = (own : ℕ → ℕ) × (q : ℕ) × (p : ℕ) × Choice g own q kind (draws i state) list p
 
 choices-choice : {g : Graph} {kind : ℕ} {list : List ℕ} (state j : ℕ) {slicing q top k top' : ℕ} {own own' : ℕ → ℕ}
-    → Choices g slicing q kind (draws j state) list own top k own' top' → (i : ℕ) → i < k → Chosen g kind state list (j + i)
+    → Choices g slicing q kind (draws j state) list own top k own' top' → (i : ℕ) → i < k → ChoiceAt g kind state list (j + i)
 choices-choice state j unchosen i l = absurd (not-suc-le-zero l)
-choices-choice {g} {kind} {list} state j {q = q} (choice {k} {own = own} p c x y) i l = elim (decLt i k) as (λ _. Chosen g kind state list (j + i)) [
+choices-choice {g} {kind} {list} state j {q = q} (choice {k} {own = own} p c x y) i l = elim (decLt i k) as (λ _. ChoiceAt g kind state list (j + i)) [
   | yes a ↦ choices-choice state j c i a
   | no a ↦
       let e : i ≡ k = omega arith in
@@ -87,11 +87,11 @@ module _ {g : Graph} {method order kind state : ℕ} {list : List ℕ} where
   })
 
   -- every choice of the course
-  pub course-choice : {slicing top c k : ℕ} {own part : ℕ → ℕ} → Course g method order kind state list slicing own top c part k → (i : ℕ) → i < k → Chosen g kind state list i
+  pub course-choice : {slicing top c k : ℕ} {own part : ℕ → ℕ} → Course g method order kind state list slicing own top c part k → (i : ℕ) → i < k → ChoiceAt g kind state list i
   course-choice (whole f h) i l = absurd (not-suc-le-zero l)
-  course-choice (onward {k = k} {j = j} c p d s) i l = elim (decLt i k) as (λ _. Chosen g kind state list i) [
+  course-choice (onward {k = k} {j = j} c p d s) i l = elim (decLt i k) as (λ _. ChoiceAt g kind state list i) [
     | yes a ↦ course-choice c i a
-    | no a ↦ let e : k + (i - k) ≡ i = omega arith in subst (Chosen g kind state list) e (choices-choice state k (d .choices) (i - k) (omega arith))
+    | no a ↦ let e : k + (i - k) ≡ i = omega arith in subst (ChoiceAt g kind state list) e (choices-choice state k (d .choices) (i - k) (omega arith))
   ]
 
 -- kind 0 reads no list of vertices

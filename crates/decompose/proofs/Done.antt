@@ -7,7 +7,7 @@ use Rattle.graph.proofs.Certificate.{right-labels}
 use Rattle.decompose.specs.declared.finish.Answer.the-variants.{Done}
 use Rattle.decompose.specs.Promise.{Call, After, Promise}
 use Rattle.decompose.proofs.Accepting.{accepted}
-use Rattle.decompose.proofs.Coursing.{Chosen, course-choice}
+use Rattle.decompose.proofs.Coursing.{ChoiceAt, course-choice}
 
 module _ {c : Call} {a : After} {d : ℕ} (p : Promise c a (Done d)) where
   -- the label of v is the smallest vertex of its component
@@ -15,5 +15,5 @@ module _ {c : Call} {a : After} {d : ℕ} (p : Promise c a (Done d)) where
   done-label v l = rw (p .gives .label) (right-labels (accepted (sym (p .refusal)) .valid) v l)
 
   -- every choice was the pivot that the kind gives
-  pub done-choice : (i : ℕ) → i < p .gives .choices → Chosen (graph (c .n) (c .sources) (c .targets)) (c .chooser .kind) (c .chooser .state) (c .list) i
+  pub done-choice : (i : ℕ) → i < p .gives .choices → ChoiceAt (graph (c .n) (c .sources) (c .targets)) (c .chooser .kind) (c .chooser .state) (c .list) i
   done-choice = course-choice (p .gives .course .course)

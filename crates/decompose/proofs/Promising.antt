@@ -58,7 +58,7 @@ module _ {n : ℕ} {src tgt : List ℕ} {method order : ℕ} {c : Chooser} {list
         early = λ q. refl;
         zeros = λ j h. absurd (not-suc-le-zero h);
         flags = λ i h. absurd (not-suc-le-zero h);
-        whole = elim (ℕ-discrete method 0) as (λ _. (method ≡ 0) ⊎ Unsliced n (base (graph n src tgt)) ys num' (aimed n (firstOne n method order c))) [
+        whole = elim (ℕ-discrete (firstOne n method order c .slicing) 0) as (λ _. (firstOne n method order c .slicing ≡ 0) ⊎ Unsliced n (base (graph n src tgt)) ys num' (aimed n (firstOne n method order c))) [
           | yes q ↦ inl q
           | no q ↦ inr (record { one = omega (arith, a .known-method); alone = refl; whole = st .whole; made = refl })
         ];

@@ -14,8 +14,8 @@ use Rattle.machine.specs.Aim.{wrapped}
 use Rattle.machine.proofs.Round.{wrapped-low}
 
 -- method 1 is asked only for the one part
-pub cut-ask : {g : Graph} {b : ℕ} {p : Part} {top : ℕ} {w ws : List ℕ} → CutAsk g b p top w ws → MethodAsk g (p .slicing) b (p .first) top w ws
-cut-ask a = record { ask = a .ask; only = λ o. a .whole o .first }
+pub cut-ask : {g : Graph} {b slicing : ℕ} {p : Part} {top : ℕ} {w ws : List ℕ} → (slicing ≡ 1 → p .slicing ≡ 1) → CutAsk g b p top w ws → MethodAsk g slicing b (p .first) top w ws
+cut-ask o a = record { ask = a .ask; only = λ e. a .whole (o e) .first }
 
 -- the part of the record that is taken can be divided
 pub taken-part : {g : Graph} {p : Part} {s : Machine} {w ws : List ℕ} → PartAsk g p s w ws → CutAsk g (base g) p (s .top) w ws

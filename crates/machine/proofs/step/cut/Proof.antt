@@ -1,3 +1,4 @@
+use native.Mathlib.Omega.{arith}
 use borrow.Author.Needs.{needs}
 use Rattle.machine.proofs.Cutting.{cut-ask}
 use Rattle.machine.proofs.step.cut.Statement.{statement}
@@ -9,6 +10,12 @@ begins c = c .before .before .before
 abbrev divided : tie.After-words → tie.After-divide
 divided c = c .before .before .before
 
+divide-requires : tie.Need-divide-requires
+divide-requires c κs = let (g, a) = begins (c .before .before) .pre in (g, cut-ask (λ e. omega arith) a)
+
+returns : tie.Need-returns
+returns c = λ g a. divided (c .before) .divide .ensures g (cut-ask (λ e. omega arith) a)
+
 pub cut-spec : {M : Type 1} → statement M
 cut-spec =
     tie.close
@@ -17,7 +24,7 @@ cut-spec =
     (λ c. search needs)
     (λ c. search needs)
     (λ c. search needs)
-    (λ c κs. ((begins (c .before .before)) .pre .0, cut-ask ((begins (c .before .before)) .pre .1)))
+    divide-requires
     (λ c. search needs)
     (λ c. search needs)
-    (λ c. λ e a. (divided (c .before)) .divide .ensures e (cut-ask a)))
+    returns)
