@@ -6,12 +6,12 @@ use native.Mathlib.Nat.{not-suc-le-zero}
 use mathlib.Core.Path.{_≡_, refl, sym, ap, subst, _∙_}
 use mathlib.Core.Bool.{Bool, true, false, cond}
 use mathlib.Core.Logic.{_⊎_, inl, inr}
-use mathlib.Core.List.{List, []}
+use mathlib.Core.List.{List}
 use lib.Dec.{eqb}
 use borrow.Author.Tests.{eq-eqb, ne-eqb}
 use Rattle.graph.specs.Graph.{Graph}
 use Rattle.graph.specs.Pivot.{draw, draws, pivot, listOf}
-use Rattle.graph.specs.Apart.{Alike, In, Choice, Choices, unchosen, choice, Trims, Divides, next, ListAfter, Course, whole, onward, TakenApart}
+use Rattle.graph.specs.Apart.{Alike, Choice, Choices, unchosen, choice, Trims, Divides, ListAfter, Course, whole, onward, TakenApart}
 use Rattle.memory.specs.Decomposer.{col, ord, own}
 use Rattle.pivot.specs.Order.{Arranged}
 use Rattle.split.specs.State.{Stage}
@@ -40,6 +40,10 @@ agree-drawn kind k state₀ {state = state} list e f n p i = elim (ℕ-discrete 
   | no q ↦ rw (ne-eqb kind 1 q)
 ]
 
+pub agree-unlisted : (state : ℕ) (list list' : List ℕ) → Agree 0 state state list list'
+unfolding pivot
+agree-unlisted state list list' n p i = refl
+
 -- kind 1 draws once for every choice, the others never: at the beginning, and after more choices
 pub drawn-first : (t : Bool) → _≡_ {A = ℕ} 0 (cond t 0 0)
 drawn-first true = refl
@@ -49,10 +53,6 @@ pub drawn-sum : (t : Bool) (j k : ℕ) → cond t j 0 + cond t k 0 ≡ cond t (j
 drawn-sum true j k = refl
 drawn-sum false j k = refl
 
-pub agree-unlisted : (state : ℕ) (list list' : List ℕ) → Agree 0 state state list list'
-unfolding pivot
-agree-unlisted state list list' n p i = refl
-
 module _ {g : Graph} {slicing q kind state state' : ℕ} {list list' : List ℕ} (e : Agree kind state state' list list') where
   choices-agree : {own own' : ℕ → ℕ} {top k top' : ℕ} → Choices g slicing q kind state list own top k own' top' → Choices g slicing q kind state' list' own top k own' top'
   choices-agree unchosen = unchosen
@@ -61,7 +61,7 @@ module _ {g : Graph} {slicing q kind state state' : ℕ} {list list' : List ℕ}
   pub divides-agree : {own own' : ℕ → ℕ} {top k top' : ℕ} → Divides g slicing q kind state list own top k own' top' → Divides g slicing q kind state' list' own top k own' top'
   divides-agree d = record { ready = d .ready; made = d .made; swept = d .swept; choices = choices-agree (d .choices); end = d .end; gone = d .gone }
 
--- choice i: from some part, a union of whole components, the pivot that the kind gives for the state after i draws
+-- choice i: from some part, which is not empty and a union of whole components, the pivot that the kind gives for the state after i draws
 abbrev pub ChoiceAt : Graph → (kind state : ℕ) → List ℕ → ℕ → Type 0
 ChoiceAt g kind state list i = (own : ℕ → ℕ) × (q : ℕ) × (p : ℕ) × Choice g own q kind (draws i state) list p
 
@@ -76,15 +76,19 @@ choices-choice {g} {kind} {list} state j {q = q} (choice {k} {own = own} p c x y
 ]
 
 module _ {g : Graph} {method order kind state : ℕ} {list : List ℕ} where
-  -- the parts that wait count by their colours below c
-  pub course-same : {slicing top c k : ℕ} {own part part' : ℕ → ℕ} → ((i : ℕ) → i < c → part' i ≡ part i) → Course g method order kind state list slicing own top c part k → Course g method order kind state list slicing own top c part' k
-  course-same e (whole f h) = whole f (e 0 (omega arith) ∙ h)
-  course-same e (onward c p d l) = onward c p d (record {
+  -- only the parts below c count
+  parts-same : {slicing top c k : ℕ} {own part part' : ℕ → ℕ} → ((i : ℕ) → i < c → part' i ≡ part i) → Course g method order kind state list slicing own top c part k → Course g method order kind state list slicing own top c part' k
+  parts-same e (whole f h) = whole f (e 0 (omega arith) ∙ h)
+  parts-same e (onward c p d l) = onward c p d (record {
     front = λ i a. let (x, y) = l .front i a in (x, e i x ∙ y);
     new = λ i a b. rw (e i b) (l .new i a b);
     all = λ v a b. let (i, x, y, z) = l .all v a b in (i, x, y, e i y ∙ z);
     once = λ i j a b f. l .once i j a b (sym (e i a) ∙ f ∙ e j b);
   })
+
+  pub course-same : {slicing top c c' k : ℕ} {own part part' : ℕ → ℕ} → c' ≡ c → ((i : ℕ) → i < c → part' i ≡ part i)
+      → Course g method order kind state list slicing own top c part k → Course g method order kind state list slicing own top c' part' k
+  course-same {slicing} {top} {k = k} {own} {part' = part'} q e x = subst (λ (z : ℕ). Course g method order kind state list slicing own top z part' k) (sym q) (parts-same e x)
 
   -- every choice of the course
   pub course-choice : {slicing top c k : ℕ} {own part : ℕ → ℕ} → Course g method order kind state list slicing own top c part k → (i : ℕ) → i < k → ChoiceAt g kind state list i

@@ -13,16 +13,16 @@ use Rattle.graph.specs.Graph.{Graph, edges}
 use Rattle.graph.specs.Limits.{numbersNeeded, wordsNeeded}
 use Rattle.graph.specs.Numbers.{many}
 use Rattle.graph.specs.Pivot.{draws, listOf}
-use Rattle.graph.specs.Apart.{next, other, Course, onward}
+use Rattle.graph.specs.Apart.{next, other, onward}
 use Rattle.graph.proofs.Counts.{many-le}
 use Rattle.memory.specs.Decomposer.{col, own, head}
-use Rattle.split.specs.State.{labelled, rings}
+use Rattle.split.specs.State.{labelled}
 use Rattle.waiting.specs.declared.Part.{Part}
 use Rattle.waiting.specs.Records.{none}
 use Rattle.pivot.specs.declared.chooser.Chooser.{Chooser}
 use Rattle.machine.specs.declared.Machine.{Machine}
 use Rattle.machine.specs.Aim.{ring, aim, goes, aimed}
-use Rattle.parts.specs.Divide.{DivideAsk, Handed, Division}
+use Rattle.parts.specs.Divide.{DivideAsk, Division}
 use Rattle.machine.specs.Waits.{Waits, waitingCount, firstOf}
 use Rattle.machine.specs.Machine.{base, clearing, handing, dividing, Whole, CutAsk, StepAsk, Stepped, clears, hands, divides}
 use Rattle.decompose.specs.Running.{Unsliced, Running, Traced, Went}
@@ -179,7 +179,7 @@ module _ {g : Graph} {c : Chooser} {ys : List Part} {num wor : List ℕ} {s : Ma
           }
 
       cleared-traced : (method : ℕ) (list : List ℕ) → Traced g method c list ys num s → Traced g method c list (set ys (s .read) none) num (aimed (g .n) (clearing s))
-      cleared-traced method list x = record { known = x .known; order = x .order; choices = x .choices; course = course-same (λ i l. ap (own (g .n) (base g) num) (same₁ i)) (x .course); drawn = x .drawn }
+      cleared-traced method list x = record { known = x .known; order = x .order; choices = x .choices; course = course-same refl (λ i l. ap (own (g .n) (base g) num) (same₁ i)) (x .course); drawn = x .drawn }
 
       cleared-less : togo (g .n) (edges g) num (aimed (g .n) (clearing s)) < togo (g .n) (edges g) num s
       cleared-less = omega arith
@@ -251,15 +251,7 @@ module _ {g : Graph} {c : Chooser} {ys : List Part} {num wor : List ℕ} {s : Ma
           }
 
       handed-traced : (method : ℕ) (list : List ℕ) → Traced g method c list ys num s → Traced g method c list (set ys (s .read) child) num e₂
-      handed-traced method list x =
-          record {
-            known = x .known;
-            order = x .order;
-            choices = x .choices;
-            course = subst (λ (k : ℕ). Course g method (s .order) (c .kind) (c .state) list (s .slicing) (col (base g) num) (s .top) k (λ i. own (g .n) (base g) num (firstOf (g .n) (base g) (set ys (s .read) child) num e₂ i)) (x .choices))
-                (sym total₂) (course-same (λ i l. ap (own (g .n) (base g) num) (same₂ i)) (x .course));
-            drawn = x .drawn;
-          }
+      handed-traced method list x = record { known = x .known; order = x .order; choices = x .choices; course = course-same total₂ (λ i l. ap (own (g .n) (base g) num) (same₂ i)) (x .course); drawn = x .drawn }
 
       handed-less : togo (g .n) (edges g) num e₂ < togo (g .n) (edges g) num s
       handed-less = omega arith
@@ -364,13 +356,11 @@ module _ {g : Graph} {c : Chooser} {ys : List Part} {num wor : List ℕ} {s : Ma
             known = x .known;
             order = order-kept (listOf (c .kind) list) (v .handed) (x .order);
             choices = x .choices + v .pivots;
-            course = onward before p (divides-agree (agree-drawn (c .kind) (x .choices) (c .state) list (x .drawn) (r .state)) (division-divides list (r .waits .stage) v (x .order) (x .known)))
+            course = onward (course-same (sym (all-listed a b p)) (λ i l. refl) (x .course)) p
+                (divides-agree (agree-drawn (c .kind) (x .choices) (c .state) list (x .drawn) (r .state)) (division-divides list (r .waits .stage) v (x .order) (x .known)))
                 (list-divided (only a b p) (its s) (taking .low) (others s) (taking .without) (v .handed) (waitingCount e₃) (omega arith) (firstOf (g .n) (base g) (set ys (s .read) none) num' e₃) front₃ back₃ (s .order) (λ i. refl));
             drawn = omega (arith, x .drawn, v .drawn, drawn-sum (eqb (c .kind) 1) (x .choices) (v .pivots));
           }
-        where
-          before : Course g method (s .order) (c .kind) (c .state) list (s .slicing) (col (base g) num) (s .top) (s .count) (λ i. own (g .n) (base g) num (firstOf (g .n) (base g) ys num s i)) (x .choices)
-          before = subst (λ (k : ℕ). Course g method (s .order) (c .kind) (c .state) list (s .slicing) (col (base g) num) (s .top) k (λ i. own (g .n) (base g) num (firstOf (g .n) (base g) ys num s i)) (x .choices)) (all-listed a b p) (x .course)
 
       divided : Next g c ys num wor s (set ys (s .read) none) num' wor' e₃
       divided =

@@ -39,7 +39,7 @@ use Rattle.machine.proofs.Waiting.{waits-same}
 use Rattle.machine.proofs.Aiming.{goes-clear, stopped}
 use Rattle.decompose.proofs.Accepting.{Accepted, accepted}
 use Rattle.decompose.proofs.Starting.{rings-begin}
-use Rattle.decompose.proofs.Coursing.{drawn-first, apart-unlisted, apart-none}
+use Rattle.decompose.proofs.Coursing.{drawn-first, course-same, apart-unlisted, apart-none}
 
 -- the machine before its first turn
 module _ {n : ℕ} {src tgt : List ℕ} {method order : ℕ} {c : Chooser} {list num wor num' wor' : List ℕ} {lab parts len len' : ℕ}
@@ -164,7 +164,7 @@ module _ {g : Graph} {c : Chooser} {ys : List Part} {num wor : List ℕ} {e : Ma
         own = col (base g) num;
         part = λ i. own (g .n) (base g) num (firstOf (g .n) (base g) ys num e i);
         course = subst (λ (x : ℕ). Course g method x (c .kind) (c .state) list (e .slicing) (col (base g) num) (e .top) 0 (λ i. own (g .n) (base g) num (firstOf (g .n) (base g) ys num e i)) (t .choices)) o
-            (subst (λ (x : ℕ). Course g method (e .order) (c .kind) (c .state) list (e .slicing) (col (base g) num) (e .top) x (λ i. own (g .n) (base g) num (firstOf (g .n) (base g) ys num e i)) (t .choices)) none-left (t .course));
+            (course-same (sym none-left) (λ i l. refl) (t .course));
         labels = are;
       }
     where

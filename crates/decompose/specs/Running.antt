@@ -49,7 +49,7 @@ pub record Running (g : Graph) (c : Chooser) (ys : List Part) (num wor : List �
   pub drawn : c .kind ≡ 1 → rings g (base g) num ≤ s .made
   pub still : (c .kind ≡ 1 → ⊥) → s .made ≡ 0
   pub most : s .made ≤ labelled g (base g) num + g .n
-  -- the chooser is the one lent, advanced by the draws made
+  -- the machine's chooser is a copy of the one lent, advanced by the draws made
   pub kind : s .chooser .kind ≡ c .kind
   pub state : s .chooser .state ≡ draws (s .made) (c .state)
   pub going : s .go ≡ goes (g .n) s

@@ -7,7 +7,7 @@ use Rattle.waiting.specs.declared.Part.{Part}
 use Rattle.machine.specs.declared.Machine.{Machine}
 use Rattle.decompose.specs.Running.{Running, Traced, Went}
 
--- no draw is made before the first turn, so the machine's chooser is the one lent
+-- no draw is made before the first turn, so the machine's chooser stands as the one lent
 pub record DriveAsk (g : Graph) (ys : List Part) (num wor : List ℕ) (s : Machine) : Type 0 where
   pub ready : 0 < s .go → Running g (s .chooser) ys num wor s
 

@@ -9,7 +9,7 @@ pub mod finish;
 pub mod plain;
 mod turns;
 
-// The labels by method 0 or 1; parts wait on the lent list, pivots are chosen by the lent chooser.
+// The labels by method 0 or 1. Parts wait on the lent list; pivots are drawn on a copy of the chooser, and the lent one is advanced after.
 pub fn decompose(
     n: usize,
     sources: &[u32],

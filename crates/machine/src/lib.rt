@@ -12,7 +12,7 @@ pub struct Machine {
     // the place of the list that the next turn takes, and what the last turn put
     pub read: usize,
     pub part: Part,
-    // the chooser as it stands, and the draws made
+    // a copy of the lent chooser, advanced by the draws made
     pub chooser: Chooser,
     pub made: usize,
     pub refusal: u32,

@@ -4,10 +4,12 @@ ghost use Prim.Native.Nat.{_<_};
 ghost use lib.ListN.{length, set, getD};
 ghost use Rattle.waiting.specs.Records.{none};
 
-// A waiting part: its first place in the order, and 1 if method 1 has still to slice it.
+// A waiting part.
 #[repr(C)]
 pub struct Part {
+    // its first place in the order of the pivots, not a vertex
     pub first: u32,
+    // 1 if method 1 has still to slice it
     pub slicing: u32,
 }
 
