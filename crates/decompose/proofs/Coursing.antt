@@ -1,5 +1,5 @@
 -- The course of a decomposition: how a division carries it on, and what it says of each choice.
-use Prim.Native.Nat.{ℕ, zero, suc, _+_, _-_, _≤_, _<_}
+use Prim.Native.Nat.{ℕ, zero, suc, _+_, _-_, _<_}
 use native.Mathlib.Omega.{arith}
 use native.Mathlib.Decide.{decLt, ℕ-discrete}
 use native.Mathlib.Nat.{not-suc-le-zero}
@@ -10,17 +10,9 @@ use mathlib.Core.List.{List}
 use lib.Dec.{eqb}
 use borrow.Author.Tests.{eq-eqb, ne-eqb}
 use Rattle.graph.specs.Graph.{Graph}
-use Rattle.graph.specs.Pivot.{draw, draws, pivot, listOf}
+use Rattle.graph.specs.Pivot.{draw, draws, pivot}
 use Rattle.graph.specs.Apart.{Alike, Choice, Choices, unchosen, choice, Trims, Divides, ListAfter, Course, whole, onward, TakenApart}
-use Rattle.memory.specs.Decomposer.{col, ord, own}
-use Rattle.pivot.specs.Order.{Arranged}
-use Rattle.split.specs.State.{Stage}
-use Rattle.parts.specs.Divide.{Division}
-
-pub division-divides : {g : Graph} {slicing b kind state h top : ℕ} {w ws w' ws' : List ℕ} {state' k top' children : ℕ} (list : List ℕ) → Stage g b top w
-    → (d : Division g slicing b kind state h top w ws w' ws' state' k top' children) → Arranged (g .n) (listOf kind list) (ord (g .n) b w) → kind ≤ 2
-    → Divides g slicing (own (g .n) b w h) kind state list (col b w) top (d .pivots) (col b w') top'
-division-divides list s d a l = ?
+use Rattle.memory.specs.Decomposer.{own}
 
 -- draws after draws
 pub draws-more : (j k state : ℕ) → draws j (draws k state) ≡ draws (k + j) state

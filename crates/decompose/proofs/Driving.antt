@@ -25,6 +25,7 @@ use Rattle.machine.specs.Aim.{ring, aim, goes, aimed}
 use Rattle.parts.specs.Divide.{DivideAsk, Division}
 use Rattle.machine.specs.Waits.{Waits, waitingCount, firstOf}
 use Rattle.machine.specs.Machine.{base, clearing, handing, dividing, Whole, CutAsk, StepAsk, Stepped, clears, hands, divides}
+use Rattle.parts.proofs.Dividing.{division-divides}
 use Rattle.decompose.specs.Running.{Unsliced, Running, Traced, Went}
 use Rattle.decompose.specs.Turns.{DriveAsk, Ran, idle, ran}
 use Rattle.machine.proofs.Round.{wrapped-low, wrapped-one}
@@ -32,7 +33,7 @@ use Rattle.machine.proofs.Waiting.{waits-few, waits-same, waits-divide, waits-d
 use Rattle.machine.proofs.Cutting.{drawn-none, drawn-one, drawn-few, drawn-most}
 use Rattle.machine.proofs.Aiming.{Mode, clear, hand, take, stop, mode, aim-clear, aim-hand, goes-stop, Takes, takes}
 use Rattle.decompose.proofs.Order.{order-kept}
-use Rattle.decompose.proofs.Coursing.{division-divides, draws-more, agree-drawn, divides-agree, course-same, drawn-sum}
+use Rattle.decompose.proofs.Coursing.{draws-more, agree-drawn, divides-agree, course-same, drawn-sum}
 
 -- what is left to do: vertices to label, parts to hand out, records to take, places to clear
 abbrev pub togo : ℕ → ℕ → List ℕ → Machine → ℕ

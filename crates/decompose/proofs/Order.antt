@@ -4,9 +4,9 @@ use native.Mathlib.Omega.{arith}
 use mathlib.Core.List.{List}
 use Rattle.graph.specs.Graph.{Graph}
 use Rattle.pivot.specs.Order.{Arranged}
+use Rattle.pivot.proofs.Places.{arranged-same}
 use Rattle.memory.specs.Decomposer.{ord, orderAt}
 use Rattle.parts.specs.Divide.{Handed}
-use Rattle.decompose.proofs.Starting.{arranged-same}
 
 pub order-kept : {g : Graph} {b h top : ℕ} {w ws w' ws' : List ℕ} {top' children : ℕ} (list : List ℕ)
     → Handed g b h top w ws w' ws' top' children → Arranged (g .n) list (ord (g .n) b w) → Arranged (g .n) list (ord (g .n) b w')

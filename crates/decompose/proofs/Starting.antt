@@ -1,15 +1,13 @@
 -- The beginning: one part, the whole, whose chain of places is the order.
-use Prim.Native.Nat.{ℕ, zero, suc, _+_, _-_, _*_, _/_, _≤_, _<_}
+use Prim.Native.Nat.{ℕ, zero, _+_, _-_, _*_, _/_, _≤_, _<_}
 use native.Mathlib.Omega.{arith}
 use native.Mathlib.Nat.{not-suc-le-zero}
 use mathlib.Core.Path.{_≡_, refl, sym, ap, _∙_}
-use mathlib.Core.Bool.{Bool}
 use mathlib.Core.List.{List}
 use lib.ListN.{length, getD}
 use Rattle.graph.specs.Graph.{Graph, rev, edges}
 use Rattle.graph.specs.Limits.{wordsNeeded, numbersNeeded}
 use Rattle.memory.specs.Memory.{Zeroed, Put}
-use Rattle.graph.specs.Numbers.{least}
 use Rattle.graph.proofs.Chains.{same-low}
 use Rattle.graph.proofs.Counts.{many-none}
 use Rattle.sets.proofs.Store.{zero-bit}
@@ -18,6 +16,7 @@ use Rattle.index.proofs.Counts.{start-all}
 use Rattle.index.proofs.Moved.{held-kept}
 use Rattle.memory.specs.Decomposer.{col, ord, own, nxt, lst, head, chainsAt, orderAt}
 use Rattle.pivot.specs.Order.{Arranged, Ordered}
+use Rattle.pivot.proofs.Places.{arranged-same}
 use Rattle.split.specs.State.{ring, rings, Tables, Stage}
 use Rattle.parts.specs.Divide.{Blank}
 use Rattle.sweep.proofs.Choice.{arranged-placed}
@@ -25,20 +24,6 @@ use Rattle.split.proofs.Rings.{ring-is}
 use Rattle.graph.specs.Pivot.{listOf}
 use Rattle.decompose.specs.Begin.{StartAsk, Started}
 use Rattle.machine.specs.Machine.{base}
-
-least-same : (n : ℕ) (f h : ℕ → Bool) → ((i : ℕ) → f i ≡ h i) → least n f ≡ least n h
-unfolding least
-least-same zero f h e = refl
-least-same (suc n) f h e = rw (e zero, least-same n (λ i. f (suc i)) (λ i. h (suc i)) (λ i. e (suc i)))
-
-pub arranged-same : {n : ℕ} {list : List ℕ} {f h : ℕ → ℕ} → ((i : ℕ) → h i ≡ f i) → Arranged n list f → Arranged n list h
-arranged-same {n} {list} {f} {h} e a =
-    record {
-      low = λ i l. omega (arith, e i, a .low i l);
-      one = λ i j l m q. a .one i j l m (sym (e i) ∙ q ∙ e j);
-      all = λ v l. let (i, q, m) = a .all v l in (i, q, e i ∙ m);
-      exact = λ p v l t. e (least n (λ i. p (h i))) ∙ ap f (least-same n (λ i. p (h i)) (λ i. p (f i)) (λ i. ap p (e i))) ∙ a .exact p v l t;
-    }
 
 -- words of zeros are a set with no vertex
 pub blank-zeroed : {n : ℕ} {ws ws' : List ℕ} → wordsNeeded n ≤ length ws → Zeroed (wordsNeeded n) ws ws' → Blank n ws'

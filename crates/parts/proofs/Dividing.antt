@@ -16,6 +16,7 @@ use Rattle.graph.proofs.Counts.{many-le, many-mono, many-more}
 use Rattle.memory.specs.Decomposer.{col, ord, own, chainsAt, orderAt, Inside}
 use Rattle.memory.proofs.Memory.{touched-more}
 use Rattle.pivot.specs.Order.{Arranged}
+use Rattle.pivot.proofs.Places.{arranged-same}
 use Rattle.prune.specs.Cursor.{Hued}
 use Rattle.prune.specs.Trim.{Trimmed}
 use Rattle.prune.proofs.Core.{gone-alone}
@@ -24,8 +25,8 @@ use Rattle.split.specs.Chain.{First}
 use Rattle.split.proofs.Rings.{rings-none, rings-alone}
 use Rattle.split.proofs.Same.{labels-same, owned-alone, stage-moved}
 use Rattle.sweep.specs.Kind.{KindAsk, KindSwept}
-use Rattle.sweep.proofs.Sweeping.{Course, sweeps-course}
-use Rattle.sweep.proofs.Choice.{arranged-same, sweeps-choices}
+use Rattle.sweep.proofs.Sweeping.{SweptSoFar, sweeps-so-far}
+use Rattle.sweep.proofs.Choice.{sweeps-choices}
 use Rattle.parts.specs.Share.{Sharing, ShareAsk}
 use Rattle.parts.specs.Divide.{MethodAsk, MakeAsk, Made, Recoloured, Division}
 use Rattle.parts.proofs.Handing.{hand-ask, hand-colour, handed}
@@ -162,8 +163,8 @@ module _ {g : Graph} {slicing b h top : ℕ} {w ws : List ℕ} (a : MethodAsk g 
     }
 
     module _ {kind state : ℕ} {w₂ ws₂ : List ℕ} {state' k top' : ℕ} (y : KindSwept g slicing b (own (g .n) b w h) kind state top w₁ ws w₂ ws₂ state' k top') where
-      course : Course g slicing b q top w₁ (y .pivots) top' w₂
-      course = sweeps-course (divide-sweep .sweep .ready) (y .sweeps)
+      so-far : SweptSoFar g slicing b q top w₁ (y .pivots) top' w₂
+      so-far = sweeps-so-far (divide-sweep .sweep .ready) (y .sweeps)
 
       labels₁ : labelled g b w ≤ labelled g b w₁
       labels₁ = alone-labels w₁ st part known inside₁ each₁
@@ -171,22 +172,22 @@ module _ {g : Graph} {slicing b h top : ℕ} {w ws : List ℕ} (a : MethodAsk g 
       -- the first vertex has gone alone, or it was taken by a pivot
       some₂ : (slicing ≡ 1 → ⊥) → labelled g b w < labelled g b w₂
       some₂ o = elim (ℕ-discrete (col b w₁ (ord (g .n) b w h)) q) as (λ _. labelled g b w < labelled g b w₂) [
-        | yes c ↦ omega (arith, labels₁, course .few o, course .some (ord (g .n) b w h) c (y .gone (ord (g .n) b w h) low-h))
-        | no c ↦ omega (arith, alone-more w₁ st part known inside₁ each₁ (ord (g .n) b w h) low-h refl c, course .few o)
+        | yes c ↦ omega (arith, labels₁, so-far .few o, so-far .some (ord (g .n) b w h) c (y .gone (ord (g .n) b w h) low-h))
+        | no c ↦ omega (arith, alone-more w₁ st part known inside₁ each₁ (ord (g .n) b w h) low-h refl c, so-far .few o)
       ]
 
       recoloured : Recoloured g b h top w w₂ top'
       recoloured = record {
-        stage = course .ready .stage;
-        more = course .least;
-        others = λ v l o. let e = alone-else w₁ st part known inside₁ each₁ v l o in course .others v l (λ c. o (sym e ∙ c)) ∙ e;
+        stage = so-far .ready .stage;
+        more = so-far .least;
+        others = λ v l o. let e = alone-else w₁ st part known inside₁ each₁ v l o in so-far .others v l (λ c. o (sym e ∙ c)) ∙ e;
         ours = λ v l e. elim (ℕ-discrete (col b w₁ v) q) as (λ _. (col b w₂ v < g .n) ⊎ (top ≤ col b w₂ v)) [
-          | yes c ↦ ⊎-elim (λ m. absurd (y .gone v l m)) (λ m. m) (course .ours v l c)
+          | yes c ↦ ⊎-elim (λ m. absurd (y .gone v l m)) (λ m. m) (so-far .ours v l c)
           | no c ↦
               let f : col b w₁ v < g .n = ⊎-elim (λ x. absurd (c (x ∙ e))) (λ x. omega (arith, x .1)) (each₁ v l) in
-              inl (omega (arith, f, course .others v l c))
+              inl (omega (arith, f, so-far .others v l c))
         ];
-        inside = touched-more inside₁ (course .inside);
+        inside = touched-more inside₁ (so-far .inside);
       }
 
       pub divide-share : ShareAsk (g .n) b top top' h w₂
@@ -214,11 +215,11 @@ module _ {g : Graph} {slicing b h top : ℕ} {w ws : List ℕ} (a : MethodAsk g 
           drawn = y .drawn;
           advanced = y .advanced;
           colours = c₃;
-          most = omega (arith, course .left, many-le (λ v. eqb (col b w₁ v) q) (g .n));
-          many = omega (arith, rings₃, course .many, rings₁);
-          few = λ o. omega (arith, labels-same g b w₂ w₃ c₃, course .few o, labels₁);
+          most = omega (arith, so-far .left, many-le (λ v. eqb (col b w₁ v) q) (g .n));
+          many = omega (arith, rings₃, so-far .many, rings₁);
+          few = λ o. omega (arith, labels-same g b w₂ w₃ c₃, so-far .few o, labels₁);
           some = λ o. omega (arith, labels-same g b w₂ w₃ c₃, some₂ o);
-          alone = λ o. omega (arith, rings₃, course .alone o, rings₁);
+          alone = λ o. omega (arith, rings₃, so-far .alone o, rings₁);
         }
 
 -- AS DOCUMENT 01 SAYS IT

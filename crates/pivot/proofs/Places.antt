@@ -1,5 +1,5 @@
 -- Filling the order: one vertex placed, and the end.
-use Prim.Native.Nat.{ℕ, _+_, _≤_, _<_}
+use Prim.Native.Nat.{ℕ, zero, suc, _+_, _≤_, _<_}
 use native.Mathlib.Omega.{arith}
 use native.Mathlib.Decide.{decLt, ℕ-discrete}
 use native.Mathlib.Nat.{not-suc-le-zero}
@@ -335,4 +335,19 @@ counted-ordered {n} {b} {w} {w'} p =
     record {
       order = arranged-plain {ord = ord n b w'} (λ i l. p .each i l ∙ omega arith);
       beside = record { long = p .framed .long; low = λ j h. p .framed .low j (omega arith); between = λ j h k. p .framed .low j k; high = p .framed .high };
+    }
+
+least-same : (n : ℕ) (f h : ℕ → Bool) → ((i : ℕ) → f i ≡ h i) → least n f ≡ least n h
+unfolding least
+least-same zero f h e = refl
+least-same (suc n) f h e = rw (e zero, least-same n (λ i. f (suc i)) (λ i. h (suc i)) (λ i. e (suc i)))
+
+-- the same order in another memory
+pub arranged-same : {n : ℕ} {list : List ℕ} {f h : ℕ → ℕ} → ((i : ℕ) → h i ≡ f i) → Arranged n list f → Arranged n list h
+arranged-same {n} {list} {f} {h} e a =
+    record {
+      low = λ i l. omega (arith, e i, a .low i l);
+      one = λ i j l m q. a .one i j l m (sym (e i) ∙ q ∙ e j);
+      all = λ v l. let (i, q, m) = a .all v l in (i, q, e i ∙ m);
+      exact = λ p v l t. e (least n (λ i. p (h i))) ∙ ap f (least-same n (λ i. p (h i)) (λ i. p (f i)) (λ i. ap p (e i))) ∙ a .exact p v l t;
     }

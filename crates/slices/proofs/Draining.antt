@@ -1,5 +1,5 @@
 -- The loops that peel: along the neighbours of one vertex, along the queue, and along the list of seeds.
-use Prim.Native.Nat.{ℕ, _+_, _-_, _≤_, _<_}
+use Prim.Native.Nat.{ℕ, _+_, _≤_, _<_}
 use native.Mathlib.Omega.{arith}
 use native.Mathlib.Decide.{ℕ-discrete, decLt}
 use mathlib.Core.Path.{_≡_, sym, ap, _∙_}

@@ -1,20 +1,18 @@
 -- A sweep is a row of choices as document 01 says them: the order of the places is that of the caller's list.
-use Prim.Native.Nat.{ℕ, zero, suc, _+_, _≤_, _<_}
+use Prim.Native.Nat.{ℕ, _+_, _≤_, _<_}
 use native.Mathlib.Omega.{arith}
 use native.Mathlib.Decide.{ℕ-discrete}
 use mathlib.Core.Path.{_≡_, refl, sym, ap, _∙_}
 use mathlib.Core.Logic.{inl, inr, ⊎-elim}
-use mathlib.Core.Bool.{Bool}
 use mathlib.Core.List.{List, []}
 use borrow.Author.Tests.{ne-eqb}
 use Rattle.graph.specs.Graph.{Graph}
-use Rattle.graph.specs.Numbers.{least}
 use Rattle.graph.specs.Pivot.{draws, pivot, listed, listOf}
 use Rattle.graph.specs.Apart.{has, Pivoted, Choices, unchosen, choice}
 use Rattle.graph.proofs.Chains.{same-low}
 use Rattle.graph.proofs.Tests.{eq-T}
 use Rattle.pivot.specs.Order.{Arranged}
-use Rattle.pivot.proofs.Places.{listed-end}
+use Rattle.pivot.proofs.Places.{listed-end, arranged-same}
 use Rattle.memory.specs.Decomposer.{col, ord, orderAt}
 use Rattle.paint.specs.Colours.{Whole}
 use Rattle.split.specs.State.{Placed, Stage}
@@ -24,20 +22,6 @@ use Rattle.sweep.specs.Sweep.{chosen, Sweeps, unswept, taken}
 -- THE ORDER
 pub arranged-placed : {n b : ℕ} {list w : List ℕ} → Arranged n list (ord n b w) → Placed n b w
 arranged-placed a = record { low = a .low; one = a .one; all = a .all }
-
-least-same : (n : ℕ) (f h : ℕ → Bool) → ((i : ℕ) → f i ≡ h i) → least n f ≡ least n h
-unfolding least
-least-same zero f h e = refl
-least-same (suc n) f h e = rw (e zero, least-same n (λ i. f (suc i)) (λ i. h (suc i)) (λ i. e (suc i)))
-
-pub arranged-same : {n : ℕ} {list : List ℕ} {f h : ℕ → ℕ} → ((i : ℕ) → h i ≡ f i) → Arranged n list f → Arranged n list h
-arranged-same {n} {list} {f} {h} e a =
-    record {
-      low = λ i l. omega (arith, e i, a .low i l);
-      one = λ i j l m q. a .one i j l m (sym (e i) ∙ q ∙ e j);
-      all = λ v l. let (i, q, m) = a .all v l in (i, q, e i ∙ m);
-      exact = λ p v l t. e (least n (λ i. p (h i))) ∙ ap f (least-same n (λ i. p (h i)) (λ i. p (f i)) (λ i. ap p (e i))) ∙ a .exact p v l t;
-    }
 
 -- ONE CHOICE
 -- what is chosen by the order is the pivot

@@ -36,7 +36,7 @@ use Rattle.sweep.specs.Sweep.{chosen, Sweeps, unswept, taken}
 use Rattle.sweep.specs.Drawn.{Empty, Marks, EraseAsk, Erased, FindAsk, FoundIn, PickAsk, Picked, DrawAsk, Drawn, RunAsk, SweptDrawn}
 use Rattle.sweep.proofs.Marking.{tally-at}
 use Rattle.sweep.proofs.Taking.{pivot-ask, slice-ask, take-split, take-slice, taken-held}
-use Rattle.sweep.proofs.Sweeping.{Course, sweeps-course}
+use Rattle.sweep.proofs.Sweeping.{SweptSoFar, sweeps-so-far}
 
 bool-same : (a b : Bool) → _≡_ {A = ℕ} (cond a 1 0) (cond b 1 0) → a ≡ b
 bool-same true true e = refl
@@ -216,15 +216,15 @@ module _ {g : Graph} {slicing b q state top : ℕ} {w₀ ws₀ : List ℕ} {size
   drawing-none = record { sweeps = unswept; advanced = refl; marks = a .marks }
 
   module _ {w ws : List ℕ} {s k t left : ℕ} (z : Drawing g slicing b q state top w₀ w ws s k t left) where
-    pub drawing-course : Course g slicing b q top w₀ k t w
-    drawing-course = sweeps-course (a .ready) (z .sweeps)
+    pub drawing-so-far : SweptSoFar g slicing b q top w₀ k t w
+    drawing-so-far = sweeps-so-far (a .ready) (z .sweeps)
 
     -- a pivot for each vertex at most
     pub drawing-few : k + left ≤ g .n
-    drawing-few = omega (arith, drawing-course .left, marks-many (z .marks), marks-many (a .marks), marks-few (a .marks))
+    drawing-few = omega (arith, drawing-so-far .left, marks-many (z .marks), marks-many (a .marks), marks-few (a .marks))
 
     pub drawing-ask : 0 < left → DrawAsk g slicing b q t w ws left
-    drawing-ask h = record { ready = drawing-course .ready; marks = z .marks; some = h }
+    drawing-ask h = record { ready = drawing-so-far .ready; marks = z .marks; some = h }
 
     module _ {w' ws' : List ℕ} {s' left' t' : ℕ} (d : Drawn g slicing b q s t w w' ws' s' left' t') where
       pub drawing-step : Drawing g slicing b q state top w₀ w' ws' s' (k + 1) t' left'
@@ -238,7 +238,7 @@ module _ {g : Graph} {slicing b q state top : ℕ} {w₀ ws₀ : List ℕ} {size
       pub drawing-less : left' < left
       drawing-less = omega (
         arith,
-        taken-held (record { ready = drawing-course .ready; start = d .low; live = d .live }) (d .picked .taken),
+        taken-held (record { ready = drawing-so-far .ready; start = d .low; live = d .live }) (d .picked .taken),
         marks-many (d .picked .marks),
         marks-many (z .marks),
       )

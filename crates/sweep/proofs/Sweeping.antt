@@ -28,7 +28,7 @@ least-is n f i h t o =
 
 -- SEVERAL PIVOTS
 -- What k of them leave.
-pub record Course (g : Graph) (slicing b q top : ℕ) (w : List ℕ) (k t : ℕ) (w' : List ℕ) : Type 0 where
+pub record SweptSoFar (g : Graph) (slicing b q top : ℕ) (w : List ℕ) (k t : ℕ) (w' : List ℕ) : Type 0 where
   pub ready : Ready g slicing b q t w'
   pub least : top ≤ t
   pub inside : Inside (g .n) b w w'
@@ -41,9 +41,9 @@ pub record Course (g : Graph) (slicing b q top : ℕ) (w : List ℕ) (k t : ℕ)
   pub many : rings g b w' ≤ rings g b w + k
   pub alone : slicing ≡ 1 → rings g b w' ≤ rings g b w
 
-pub sweeps-course : {g : Graph} {slicing b q kind state top : ℕ} {w : List ℕ} → Ready g slicing b q top w
-    → {k t : ℕ} {w' : List ℕ} → Sweeps g slicing b q kind state top w k t w' → Course g slicing b q top w k t w'
-sweeps-course {g} {b = b} {w = w} a unswept = record {
+pub sweeps-so-far : {g : Graph} {slicing b q kind state top : ℕ} {w : List ℕ} → Ready g slicing b q top w
+    → {k t : ℕ} {w' : List ℕ} → Sweeps g slicing b q kind state top w k t w' → SweptSoFar g slicing b q top w k t w'
+sweeps-so-far {g} {b = b} {w = w} a unswept = record {
   ready = a;
   least = omega arith;
   inside = touched-none (g .n) b _ w;
@@ -55,8 +55,8 @@ sweeps-course {g} {b = b} {w = w} a unswept = record {
   many = omega arith;
   alone = λ o. omega arith;
 }
-sweeps-course {g} {slicing} {b} {q} a {w' = w'} (taken {k} {t} {w₁ = w₁} p s l e c z) =
-    let x = sweeps-course a s in
+sweeps-so-far {g} {slicing} {b} {q} a {w' = w'} (taken {k} {t} {w₁ = w₁} p s l e c z) =
+    let x = sweeps-so-far a s in
     let y : TakeAsk g slicing b p q t w₁ = record { ready = x .ready; start = l; live = e } in
     record {
       ready = taken-ready y z;
@@ -100,28 +100,28 @@ module _ {g : Graph} {slicing b h q top : ℕ} {w₀ : List ℕ} (a : SweepAsk g
   }
 
   module _ {i : ℕ} {w : List ℕ} {t : ℕ} (z : Sweeping g slicing b h q top w₀ a i w t) where
-    pub sweep-course : Course g slicing b q top w₀ (z .pivots) t w
-    sweep-course = sweeps-course (a .ready) (z .sweeps)
+    pub sweep-so-far : SweptSoFar g slicing b q top w₀ (z .pivots) t w
+    sweep-so-far = sweeps-so-far (a .ready) (z .sweeps)
 
     ord-same : (j : ℕ) → ord (g .n) b w j ≡ ord (g .n) b w₀ j
-    ord-same j = sweep-course .inside .high (orderAt (g .n) b + j) (omega arith)
+    ord-same j = sweep-so-far .inside .high (orderAt (g .n) b + j) (omega arith)
 
     low : (j : ℕ) → j < g .n → ord (g .n) b w j < g .n
-    low = sweep-course .ready .stage .placed .low
+    low = sweep-so-far .ready .stage .placed .low
 
     -- what has the colour q now had it when the chain was made
     was : (j : ℕ) → j < g .n → own (g .n) b w j ≡ q → a .runs .past j ≡ q
     was j l e = elim (ℕ-discrete (own (g .n) b w₀ j) q) as (λ _. a .runs .past j ≡ q) [
       | yes y ↦ a .runs .still j l y
-      | no y ↦ absurd (y (sym (sweep-course .others (ord (g .n) b w₀ j) (a .ready .stage .placed .low j l) y) ∙ ap (col b w) (sym (ord-same j)) ∙ e))
+      | no y ↦ absurd (y (sym (sweep-so-far .others (ord (g .n) b w₀ j) (a .ready .stage .placed .low j l) y) ∙ ap (col b w) (sym (ord-same j)) ∙ e))
     ]
 
     module _ (l : i < g .n) where
       pub next-is : Follows (g .n) (a .runs .past) i (nxt (g .n) b w i)
-      next-is = rw (sweep-course .inside .mid (chainsAt (g .n) b + i) (omega arith) (omega arith)) (a .runs .next i l (z .here l))
+      next-is = rw (sweep-so-far .inside .mid (chainsAt (g .n) b + i) (omega arith) (omega arith)) (a .runs .next i l (z .here l))
 
       pub sweep-turn : TurnAsk g slicing b i q t w
-      sweep-turn = record { ready = sweep-course .ready; low = l }
+      sweep-turn = record { ready = sweep-so-far .ready; low = l }
 
       -- below the next place nothing of the colour q is left
       passed : (w' : List ℕ) → ((j : ℕ) → ord (g .n) b w' j ≡ ord (g .n) b w j) → ((u : ℕ) → u < g .n → (col b w u ≡ q → ⊥) → col b w' u ≡ col b w u)

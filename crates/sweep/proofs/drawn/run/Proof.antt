@@ -2,7 +2,7 @@ use native.Mathlib.Omega.{arith}
 use mathlib.Core.Path.{sym, _∙_}
 use Rattle.graph.specs.Arrows.{EveryOf}
 use Rattle.sweep.specs.Drawn.{RunAsk}
-use Rattle.sweep.proofs.Drawing.{Drawing, drawing-none, drawing-course, drawing-few, drawing-ask, drawing-step, drawing-less, drawing-all}
+use Rattle.sweep.proofs.Drawing.{Drawing, drawing-none, drawing-so-far, drawing-few, drawing-ask, drawing-step, drawing-less, drawing-all}
 use Rattle.sweep.proofs.drawn.run.Statement.{statement}
 use Rattle.sweep.proofs.drawn.run.Tie as tie
 
@@ -47,6 +47,6 @@ run-spec =
     add-draws
     loop-less
     loop-again
-    (λ c. let s = begins (c .before) in drawing-course (s .pre .1) (c .before .loop .inv (s .pre .0) (s .pre .1)) .inside .long)
+    (λ c. let s = begins (c .before) in drawing-so-far (s .pre .1) (c .before .loop .inv (s .pre .0) (s .pre .1)) .inside .long)
     (λ c. let s = begins (c .before) in c .before .loop .inv (s .pre .0) (s .pre .1) .marks .words ∙ sym (s .pre .1 .marks .words))
     (λ c. λ e a. drawing-all a (c .before .loop .inv e a) (λ h. absurd (omega (arith, h, c .loop-test .left)))))
