@@ -15,6 +15,7 @@ use Rattle.memory.specs.Memory.{Zeroed, Framed, ClearAsk, Cleared}
 use Rattle.memory.proofs.Memory.{zeroed-after}
 use Rattle.graph.proofs.Refusals.{or-none, or-left-none, given-none, not-lacking, Passed, table-passed, passed-valid}
 use Rattle.index.specs.Build.{One}
+use Rattle.sets.specs.Sizes.{Words}
 use Rattle.sets.proofs.Sizes.{sized, size-below, size-many}
 use Rattle.reach.specs.Search.{Call, searchRefusal, tableOf, Finished}
 use Rattle.reach.specs.Steps.{ChooseAsk, TableAsk, RunAsk, Found}
@@ -84,10 +85,11 @@ module _ (c : Call) (e : searchRefusal c ≡ 0) where
   zeroed f z = zeroed-after (f .long) (λ j l. f .high j (omega arith)) z
 
   -- the index was made, the search found the set, the set was measured, and the working memory cleared
-  pub finished : (backward : Bool) {w₁ w₂ r w ws : List ℕ} {k seen : ℕ} → One (tableOf c backward) (c .numbers) w₁ → Found (tableOf c backward) (c .starts) (c .permitted) w₁ (c .reached) w₂ r seen → k ≡ tally (bit r) (length r * 64)
+  pub finished : (backward : Bool) {w₁ w₂ r w ws : List ℕ} {k seen : ℕ} → One (tableOf c backward) (c .numbers) w₁ → Found (tableOf c backward) (c .starts) (c .permitted) w₁ (c .reached) w₂ r seen → Words r → k ≡ tally (bit r) (length r * 64)
       → Cleared (c .n) (length (c .sources)) w₂ w (c .words) ws → Finished c backward r w ws k seen
-  finished true {r = r} o f q x = record {
+  finished true {r = r} o f t q x = record {
     long = f .long;
+    fit = t;
     sound = f .sound;
     complete = f .complete;
     above = f .above;
@@ -96,8 +98,9 @@ module _ (c : Call) (e : searchRefusal c ≡ 0) where
     numbers = zeroed (laid-framed o (f .frame)) (x .numbers-zero);
     words = x .words-zero;
   }
-  finished false {r = r} o f q x = record {
+  finished false {r = r} o f t q x = record {
     long = f .long;
+    fit = t;
     sound = f .sound;
     complete = f .complete;
     above = f .above;

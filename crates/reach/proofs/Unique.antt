@@ -10,7 +10,7 @@ use Rattle.graph.specs.Sets.{bit, members}
 use Rattle.graph.specs.Search.{looked}
 use Rattle.memory.proofs.Memory.{zeroed-one}
 use Rattle.sets.proofs.Store.{bit-lt}
-use Rattle.sets.proofs.Unique.{Words, set-one}
+use Rattle.sets.proofs.Unique.{set-one}
 use Rattle.reach.specs.Search.{Call, tableOf, Finished, Promise}
 use Rattle.reach.specs.declared.Answer.{Answer}
 use Rattle.reach.specs.declared.Answer.the-variants.{Done, Refused}
@@ -24,10 +24,10 @@ bits-one {c} {b} {r} {w} {ws} {r'} p q v = elim (ℕ-discrete (bit r v) 1) as (�
   ]
 ]
 
-gives-one : {c : Call} {b : Bool} {r w ws r' w' ws' : List ℕ} {k e k' e' : ℕ} → Words r → Words r' → Finished c b r w ws k e → Finished c b r' w' ws' k' e'
+gives-one : {c : Call} {b : Bool} {r w ws r' w' ws' : List ℕ} {k e k' e' : ℕ} → Finished c b r w ws k e → Finished c b r' w' ws' k' e'
     → (k ≡ k') × (e ≡ e') × (r ≡ r') × (w ≡ w') × (ws ≡ ws')
-gives-one {c} {b} {r} {w} {ws} {r'} f f' p q =
-    let s : r ≡ r' = set-one r r' f f' (p .long ∙ sym (q .long)) (bits-one p q) in (
+gives-one {c} {b} {r} {w} {ws} {r'} p q =
+    let s : r ≡ r' = set-one r r' (p .fit) (q .fit) (p .long ∙ sym (q .long)) (bits-one p q) in (
       p .vertices ∙ ap (λ (x : List ℕ). many (members (c .n) x) (c .n)) s ∙ sym (q .vertices),
       p .edges ∙ ap (λ (x : List ℕ). looked (tableOf c b) (members (c .n) x)) s ∙ sym (q .edges),
       s,
@@ -35,13 +35,13 @@ gives-one {c} {b} {r} {w} {ws} {r'} f f' p q =
       zeroed-one (p .words) (q .words),
     )
 
-pub search-one : (c : Call) (b : Bool) (r w ws r' w' ws' : List ℕ) (a a' : Answer) → Words r → Words r' → Promise c b r w ws a → Promise c b r' w' ws' a'
+pub search-one : (c : Call) (b : Bool) (r w ws r' w' ws' : List ℕ) (a a' : Answer) → Promise c b r w ws a → Promise c b r' w' ws' a'
     → (a ≡ a') × (r ≡ r') × (w ≡ w') × (ws ≡ ws')
-search-one c b r w ws r' w' ws' (Done k e) (Done k' e') f f' p q =
-    let (x, y, s, t, u) = gives-one f f' (p .gives) (q .gives) in (ap₂ Done x y, s, t, u)
-search-one c b r w ws r' w' ws' (Done k e) (Refused j) f f' p q = absurd (q .gives .refused (q .refusal ∙ sym (p .refusal)))
-search-one c b r w ws r' w' ws' (Refused j) (Done k e) f f' p q = absurd (p .gives .refused (p .refusal ∙ sym (q .refusal)))
-search-one c b r w ws r' w' ws' (Refused j) (Refused j') f f' p q =
+search-one c b r w ws r' w' ws' (Done k e) (Done k' e') p q =
+    let (x, y, s, t, u) = gives-one (p .gives) (q .gives) in (ap₂ Done x y, s, t, u)
+search-one c b r w ws r' w' ws' (Done k e) (Refused j) p q = absurd (q .gives .refused (q .refusal ∙ sym (p .refusal)))
+search-one c b r w ws r' w' ws' (Refused j) (Done k e) p q = absurd (p .gives .refused (p .refusal ∙ sym (q .refusal)))
+search-one c b r w ws r' w' ws' (Refused j) (Refused j') p q =
     let x = p .gives in
     let y = q .gives in
     (ap Refused (p .refusal ∙ sym (q .refusal)), x .reached ∙ sym (y .reached), x .numbers ∙ sym (y .numbers), x .words ∙ sym (y .words))

@@ -12,7 +12,7 @@ use Rattle.graph.specs.Search.{looked}
 use Rattle.graph.specs.Sets.{bit, Members, members}
 use Rattle.memory.specs.Memory.{Zeroed}
 use Rattle.graph.specs.Refusal.{given, _or_, tableRefusal, lacking}
-use Rattle.sets.specs.Sizes.{ill-sized}
+use Rattle.sets.specs.Sizes.{ill-sized, Words}
 use Rattle.reach.specs.declared.Answer.{Answer}
 use Rattle.reach.specs.declared.Answer.the-variants.{Done, Refused}
 
@@ -50,6 +50,7 @@ number (Refused k) = k
 -- done: the set, its size, the number of edges whose source (backward: target) was reached, and the working memory
 pub record Finished (c : Call) (backward : Bool) (r w ws : List ℕ) (k e : ℕ) : Type 0 where
   pub long : length r ≡ length (c .reached)
+  pub fit : Words r
   pub sound : (v : ℕ) → bit r v ≡ 1 → Reached c backward v
   pub complete : (v : ℕ) → Reached c backward v → bit r v ≡ 1
   pub above : (v : ℕ) → c .n ≤ v → bit r v ≡ 0

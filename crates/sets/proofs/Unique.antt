@@ -8,6 +8,7 @@ use lib.Arith.{lt-one}
 use lib.ListN.{length, getD}
 use lib.Seq.{ext-getD}
 use Rattle.graph.specs.Sets.{bit}
+use Rattle.sets.specs.Sizes.{Words}
 use Rattle.sets.proofs.Digits.{half-at}
 
 -- two words of k digits with the same digits are equal
@@ -16,10 +17,6 @@ word-same zero x y hx hy h = lt-one hx ∙ sym (lt-one hy)
 word-same (suc k) x y hx hy h =
     let i : x / 2 ≡ y / 2 = word-same k (x / 2) (y / 2) (omega (arith, pow-suc 2 k)) (omega (arith, pow-suc 2 k)) (λ j q. half-at x j ∙ h (suc j) (omega arith) ∙ sym (half-at y j)) in
     omega (arith, h 0 (omega arith), div-one x, div-one y)
-
--- what the words of a lent slice are: numbers of 64 bits
-abbrev pub Words : List ℕ → Type 0
-Words w = (i : ℕ) → getD w i 0 < 2 ^ 64
 
 pub set-one : (w x : List ℕ) → Words w → Words x → length w ≡ length x → ((v : ℕ) → bit w v ≡ bit x v) → w ≡ x
 unfolding bit

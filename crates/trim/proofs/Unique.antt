@@ -11,20 +11,20 @@ use Rattle.graph.specs.Sets.{members}
 use Rattle.memory.proofs.Memory.{zeroed-one}
 use Rattle.graph.proofs.Tests.{and-l}
 use Rattle.graph.proofs.Trim.{core-is}
-use Rattle.sets.proofs.Unique.{Words, set-one}
+use Rattle.sets.proofs.Unique.{set-one}
 use Rattle.trim.specs.Promise.{Call, leftOf, Promise}
 use Rattle.trim.specs.declared.Answer.{Answer}
 use Rattle.trim.specs.declared.Answer.the-variants.{Done, Refused}
 
-pub trim-one : (c : Call) (r w ws r' w' ws' : List ℕ) (a a' : Answer) → Words r → Words r' → Promise c r w ws a → Promise c r' w' ws' a'
+pub trim-one : (c : Call) (r w ws r' w' ws' : List ℕ) (a a' : Answer) → Promise c r w ws a → Promise c r' w' ws' a'
     → (a ≡ a') × (r ≡ r') × (w ≡ w') × (ws ≡ ws')
-trim-one c r w ws r' w' ws' (Done k) (Done k') f f' p q =
+trim-one c r w ws r' w' ws' (Done k) (Done k') p q =
     let x = p .gives in
     let y = q .gives in
-    (ap Done (x .vertices ∙ sym (y .vertices)), set-one r r' f f' (x .long ∙ sym (y .long)) (λ v. x .set v ∙ sym (y .set v)), zeroed-one (x .numbers) (y .numbers), zeroed-one (x .words) (y .words))
-trim-one c r w ws r' w' ws' (Done k) (Refused j) f f' p q = absurd (q .gives .refused (q .refusal ∙ sym (p .refusal)))
-trim-one c r w ws r' w' ws' (Refused j) (Done k) f f' p q = absurd (p .gives .refused (p .refusal ∙ sym (q .refusal)))
-trim-one c r w ws r' w' ws' (Refused j) (Refused j') f f' p q =
+    (ap Done (x .vertices ∙ sym (y .vertices)), set-one r r' (x .fit) (y .fit) (x .long ∙ sym (y .long)) (λ v. x .set v ∙ sym (y .set v)), zeroed-one (x .numbers) (y .numbers), zeroed-one (x .words) (y .words))
+trim-one c r w ws r' w' ws' (Done k) (Refused j) p q = absurd (q .gives .refused (q .refusal ∙ sym (p .refusal)))
+trim-one c r w ws r' w' ws' (Refused j) (Done k) p q = absurd (p .gives .refused (p .refusal ∙ sym (q .refusal)))
+trim-one c r w ws r' w' ws' (Refused j) (Refused j') p q =
     let x = p .gives in
     let y = q .gives in
     (ap Refused (p .refusal ∙ sym (q .refusal)), x .left ∙ sym (y .left), x .numbers ∙ sym (y .numbers), x .words ∙ sym (y .words))

@@ -25,6 +25,7 @@ use Rattle.index.proofs.Asks.{valid-both}
 use Rattle.index.proofs.Counts.{start-all}
 use Rattle.index.proofs.Moved.{held-kept}
 use Rattle.sets.proofs.Store.{bit-lt, empty-bit}
+use Rattle.sets.specs.Sizes.{Words}
 use Rattle.sets.proofs.Sizes.{sized, size-below}
 use Rattle.memory.specs.Decomposer.{col, own, nxt}
 use Rattle.paint.specs.Colours.{Coloured}
@@ -203,9 +204,10 @@ module _ (c : Call) (e : trimRefusal c ≡ 0) where
     size k q = q ∙ size-below r (c .n) (length r * 64) (omega (arith, accepted .left, z .long)) above
         ∙ tally-ext (bit r) (λ v. cond (mark (leftOf c) v) 1 0) (c .n) (λ v l. z .set v) ∙ sym (many-tally (mark (leftOf c)) (c .n))
 
-    pub finished : {w ws : List ℕ} {k : ℕ} → k ≡ tally (bit r) (length r * 64) → Cleared (c .n) (length (c .sources)) w₁ w (c .words) ws → Finished c r w ws k
-    finished {k = k} q x = record {
+    pub finished : {w ws : List ℕ} {k : ℕ} → Words r → k ≡ tally (bit r) (length r * 64) → Cleared (c .n) (length (c .sources)) w₁ w (c .words) ws → Finished c r w ws k
+    finished {k = k} t q x = record {
       long = z .long;
+      fit = t;
       set = z .set;
       above = above;
       vertices = size k q;

@@ -11,7 +11,7 @@ use Rattle.graph.specs.Search.{core}
 use Rattle.graph.specs.Sets.{bit, members}
 use Rattle.memory.specs.Memory.{Zeroed}
 use Rattle.graph.specs.Refusal.{given, _or_, tableRefusal, lacking}
-use Rattle.sets.specs.Sizes.{ill-sized}
+use Rattle.sets.specs.Sizes.{ill-sized, Words}
 use Rattle.trim.specs.declared.Answer.{Answer}
 use Rattle.trim.specs.declared.Answer.the-variants.{Done, Refused}
 
@@ -44,6 +44,7 @@ number (Refused k) = k
 -- done: the set of what is left, bits at n and above zero, its size, and the working memory
 pub record Finished (c : Call) (r w ws : List ℕ) (k : ℕ) : Type 0 where
   pub long : length r ≡ length (c .left)
+  pub fit : Words r
   pub set : (v : ℕ) → bit r v ≡ cond (mark (leftOf c) v) 1 0
   pub above : (v : ℕ) → c .n ≤ v → bit r v ≡ 0
   pub vertices : k ≡ many (mark (leftOf c)) (c .n)

@@ -58,7 +58,7 @@ returns-2 c =
     let at-size = at-clear .before .before .before in
     let at-run = end (at-size .before .before) in
     let e = pass (passed at-run) in
-    record { refusal = sym e; gives = finished _ e _ (indexed (at-run .before) .neighbours .ensures) (ran at-run) (at-size .size .ensures) (at-clear .clear .ensures) }
+    record { refusal = sym e; gives = finished _ e _ (indexed (at-run .before) .neighbours .ensures) (ran at-run) (λ i. at-size .before .before .slice-known6 .given i .fits) (at-size .size .ensures) (at-clear .clear .ensures) }
 
 pub search-spec : {M : Type 1} → statement M
 search-spec =

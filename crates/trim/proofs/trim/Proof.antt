@@ -33,7 +33,7 @@ returns-2 c =
     let at-size = at-clear .before .before .before in
     let at-run = ran (at-size .before .before) in
     let e = sym (passed at-run .before .refusal .ensures) ∙ passed at-run .if1 .left in
-    record { refusal = sym e; gives = finished _ e (at-run .run .ensures) (at-size .size .ensures) (at-clear .clear .ensures) }
+    record { refusal = sym e; gives = finished _ e (at-run .run .ensures) (λ i. at-size .before .before .slice-known5 .given i .fits) (at-size .size .ensures) (at-clear .clear .ensures) }
 
 pub trim-spec : {M : Type 1} → statement M
 trim-spec =
