@@ -5,3 +5,4 @@ pub mod Result
 pub mod Direction
 pub mod Outcome
 pub mod Computed
+pub mod Chains
