@@ -12,9 +12,9 @@ use Rattle.graph.specs.Search.{reached}
 use Rattle.graph.specs.Sets.{bit, members}
 use Rattle.graph.proofs.Chains.{reach-wider, valid-rev}
 use Rattle.graph.proofs.Search.{reached-iff}
+use Rattle.sets.proofs.Sizes.{members-in, members-out}
 use Rattle.reach.specs.Search.{Call, tableOf, Finished, Promise}
 use Rattle.reach.specs.declared.Answer.the-variants.{Done}
-use Rattle.reach.proofs.Result.{members-in, members-out}
 use Rattle.reach.proofs.Outcome.{table-ask}
 
 -- what is reached does not depend on how the sets are given
@@ -26,8 +26,8 @@ module _ (c : Call) (r w ws : List ℕ) (k e : ℕ) where
       → (bit r v ≡ 1) ↔ T (mark (reached (tableOf c b) (members (c .n) (c .permitted)) (members (c .n) (c .starts))) v)
   computed b ok f v l =
       let it = reached-iff {g = tableOf c b} ok (members (c .n) (c .permitted)) (members (c .n) (c .starts)) v l in (
-        λ h. it .1 (fwd-wider {g = tableOf c b} (λ u t. members-in (c .n) (c .permitted) u (t .0) (t .1)) (λ u t. members-in (c .n) (c .starts) u (t .0) (t .1)) v (f .sound v h)),
-        λ t. f .complete v (fwd-wider {g = tableOf c b} (λ u t. members-out (c .n) (c .permitted) u t) (λ u t. members-out (c .n) (c .starts) u t) v (it .0 t)),
+        λ h. it .1 (fwd-wider {g = tableOf c b} (members-in (c .n) (c .permitted)) (members-in (c .n) (c .starts)) v (f .sound v h)),
+        λ t. f .complete v (fwd-wider {g = tableOf c b} (members-out (c .n) (c .permitted)) (members-out (c .n) (c .starts)) v (it .0 t)),
       )
 
   pub search-computed : (b : Bool) → Promise c b r w ws (Done k e) → (v : ℕ) → v < c .n

@@ -6,13 +6,12 @@ use mathlib.Core.Path.{_≡_, sym, ap, subst, _∙_}
 use mathlib.Core.Bool.{Bool, _&&_}
 use mathlib.Core.Logic.{⊎-elim}
 use mathlib.Core.List.{List}
-use lib.Dec.{T, eqb, ltb, eqb→eq, ltb→lt}
-use borrow.Author.Tests.{lt-ltb}
+use lib.Dec.{T}
 use Rattle.graph.specs.Graph.{Graph, Part, Valid, stay, edges, from}
 use Rattle.graph.specs.Parts.{Fwd}
 use Rattle.graph.specs.Search.{looked}
 use Rattle.graph.specs.Sets.{bit, Members, members}
-use Rattle.graph.proofs.Tests.{and-split, and-make, eq-T}
+use Rattle.graph.proofs.Tests.{and-split, and-make}
 use Rattle.graph.proofs.Counts.{many-mono}
 use Rattle.graph.proofs.Chains.{chain-first, chain-last, chain-wider}
 use Rattle.index.proofs.Moved.{held-kept}
@@ -23,6 +22,7 @@ use Rattle.paint.proofs.Painting.{paint-first, paint-opens}
 use Rattle.paint.proofs.Components.{painted-hit}
 use Rattle.paint.proofs.Spreading.{chain-low, begun-ask, begun-searched}
 use Rattle.sets.proofs.Store.{bit-lt}
+use Rattle.sets.proofs.Sizes.{members-in, members-out}
 use Rattle.reach.specs.Steps.{reaching, Chosen, BeginAsk, BegunBelow, GatherAsk, Gathered, RunAsk, Found}
 use Rattle.reach.proofs.Starts.{reaching-still}
 
@@ -31,12 +31,6 @@ looked-less : (g : Graph) (p q : ℕ → Bool) → Valid g → ((v : ℕ) → v 
 unfolding looked
 looked-less g p q ok f = many-mono (λ e. g .counted e && p (from g e)) (λ e. g .counted e && q (from g e)) (edges g)
     (λ e l t. let (x, y) = and-split (g .counted e) (p (from g e)) t in and-make (g .counted e) (q (from g e)) x (f (from g e) (ok .from-low e l) y))
-
-pub members-in : (n : ℕ) (r : List ℕ) (v : ℕ) → v < n → bit r v ≡ 1 → T (members n r v)
-members-in n r v l e = rw (lt-ltb v n l) (eq-T (bit r v) 1 e)
-
-pub members-out : (n : ℕ) (r : List ℕ) (v : ℕ) → T (members n r v) → (v < n) × (bit r v ≡ 1)
-members-out n r v t = let s = and-split (ltb v n) (eqb (bit r v) 1) t in (ltb→lt v n (s .0), eqb→eq (bit r v) 1 (s .1))
 
 module _ {g : Graph} {starts permitted w₀ r₀ : List ℕ} (a : RunAsk g starts permitted w₀ r₀) where
   abbrev n : ℕ
@@ -147,7 +141,7 @@ module _ {g : Graph} {starts permitted w₀ r₀ : List ℕ} (a : RunAsk g start
 
           -- painted is reached
           painted-in : (v : ℕ) → v < n → T (painted reaching b w₁ w₃ v) → T (members n r₂ v)
-          painted-in v l p = members-in n r₂ v l (hit-bit v l (painted-hit searched reaching-still v l .0 p))
+          painted-in v l p = members-in n r₂ v (l, hit-bit v l (painted-hit searched reaching-still v l .0 p))
 
           in-painted : (v : ℕ) → v < n → T (members n r₂ v) → T (painted reaching b w₁ w₃ v)
           in-painted v l p = painted-hit searched reaching-still v l .1 (bit-hit v (members-out n r₂ v p .1))

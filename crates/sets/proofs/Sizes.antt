@@ -9,11 +9,12 @@ use native.Mathlib.Decide.{ℕ-discrete}
 use lib.ListN.{length, getD}
 use lib.Arith.{lt-one}
 use lib.Count.{ones, ones-step}
-use lib.Dec.{eqb}
+use lib.Dec.{T, eqb, ltb, eqb→eq, ltb→lt}
 use borrow.Author.Tests.{lt-ltb, ne-eqb, eqb-true, not-false}
 use Rattle.graph.specs.Limits.{wordsOf}
 use Rattle.graph.specs.Numbers.{tally, many}
-use Rattle.graph.specs.Sets.{bit, members}
+use Rattle.graph.specs.Sets.{bit, Members, members}
+use Rattle.graph.proofs.Tests.{and-split, eq-T}
 use Rattle.graph.proofs.Sums.{tally-ext, tally-front, tally-add, tally-none, many-tally}
 use Rattle.sets.specs.Sizes.{ill-sized}
 use Rattle.sets.proofs.Digits.{half-at}
@@ -21,6 +22,13 @@ use Rattle.sets.proofs.Store.{bit-lt}
 
 pub sized : (n : ℕ) (ws : List ℕ) → ill-sized n ws ≡ false → length ws ≡ wordsOf n
 sized n ws e = eqb-true (length ws) (wordsOf n) (not-false (eqb (length ws) (wordsOf n)) e)
+
+-- the vertices of a set, as a set and as a test
+pub members-in : (n : ℕ) (w : List ℕ) (v : ℕ) → Members n w v → T (members n w v)
+members-in n w v (l, e) = rw (lt-ltb v n l) (eq-T (bit w v) 1 e)
+
+pub members-out : (n : ℕ) (w : List ℕ) (v : ℕ) → T (members n w v) → Members n w v
+members-out n w v t = let s = and-split (ltb v n) (eqb (bit w v) 1) t in (ltb→lt v n (s .0), eqb→eq (bit w v) 1 (s .1))
 
 -- the ones of a word of k digits are the sum of its digits
 ones-tally : (k x : ℕ) → x < 2 ^ k → ones x ≡ tally (λ j. x / 2 ^ j % 2) k

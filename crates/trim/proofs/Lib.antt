@@ -1,3 +1,4 @@
 pub mod Between
 pub mod Whole
 pub mod Unique
+pub mod Left

@@ -1,18 +1,10 @@
--- Two outcomes that the promise of trimming allows are equal: the answer and all memory lent. What is left is the greatest tight part.
+-- Two outcomes that the promise of trimming allows are equal: the answer and all memory lent.
 use Prim.Native.Nat.{ℕ}
 use mathlib.Core.Path.{_≡_, sym, ap, _∙_}
 use mathlib.Core.List.{List}
-use lib.Dec.{ltb, ltb→lt}
-use Rattle.graph.specs.Graph.{graph}
-use Rattle.graph.specs.Numbers.{mark}
-use Rattle.graph.specs.Parts.{IsCore}
-use Rattle.graph.specs.Search.{part}
-use Rattle.graph.specs.Sets.{members}
 use Rattle.memory.proofs.Memory.{zeroed-one}
-use Rattle.graph.proofs.Tests.{and-l}
-use Rattle.graph.proofs.Trim.{core-is}
 use Rattle.sets.proofs.Unique.{set-one}
-use Rattle.trim.specs.Promise.{Call, leftOf, Promise}
+use Rattle.trim.specs.Promise.{Call, Promise}
 use Rattle.trim.specs.declared.Answer.{Answer}
 use Rattle.trim.specs.declared.Answer.the-variants.{Done, Refused}
 
@@ -28,7 +20,3 @@ trim-one c r w ws r' w' ws' (Refused j) (Refused j') p q =
     let x = p .gives in
     let y = q .gives in
     (ap Refused (p .refusal ∙ sym (q .refusal)), x .left ∙ sym (y .left), x .numbers ∙ sym (y .numbers), x .words ∙ sym (y .words))
-
--- WHAT IS LEFT IS THE GREATEST PART IN WHICH EVERY VERTEX IS ENTERED AND LEFT
-pub left-is : (c : Call) → IsCore (graph (c .n) (c .sources) (c .targets)) (part (members (c .n) (c .part))) (part (mark (leftOf c)))
-left-is c = core-is (graph (c .n) (c .sources) (c .targets)) (members (c .n) (c .part)) (λ v t. ltb→lt v (c .n) (and-l (ltb v (c .n)) _ t))

@@ -7,7 +7,7 @@ use mathlib.Core.Path.{_≡_, refl, sym, ap, _∙_}
 use mathlib.Core.Bool.{Bool, true, false, cond, _&&_}
 use mathlib.Core.List.{List}
 use lib.ListN.{length}
-use lib.Dec.{T, eqb, ltb, eqb→eq, ltb→lt}
+use lib.Dec.{T, eqb, ltb, eqb→eq}
 use Rattle.graph.specs.Limits.{wordsOf, Enough}
 use Rattle.graph.specs.Graph.{Graph, graph, rev}
 use Rattle.graph.specs.Numbers.{table, tally, many, mark}
@@ -15,7 +15,7 @@ use Rattle.graph.specs.Search.{part, trim, trimmed, core}
 use Rattle.graph.specs.Sets.{bit, members}
 use Rattle.memory.specs.Memory.{Zeroed, ClearAsk, Cleared}
 use Rattle.memory.proofs.Memory.{zeroed-after}
-use Rattle.graph.proofs.Tests.{table-same, T-dec, and-l, eq-T}
+use Rattle.graph.proofs.Tests.{table-same, T-dec, eq-T}
 use Rattle.graph.proofs.Sums.{tally-ext, many-tally}
 use Rattle.graph.proofs.Chains.{valid-rev}
 use Rattle.graph.proofs.Refusals.{or-none, or-left-none, given-none, not-lacking, Passed, table-passed, passed-valid}
@@ -26,7 +26,7 @@ use Rattle.index.proofs.Counts.{start-all}
 use Rattle.index.proofs.Moved.{held-kept}
 use Rattle.sets.proofs.Store.{bit-lt, empty-bit}
 use Rattle.sets.specs.Sizes.{Words}
-use Rattle.sets.proofs.Sizes.{sized, size-below}
+use Rattle.sets.proofs.Sizes.{sized, size-below, members-out}
 use Rattle.memory.specs.Decomposer.{col, own, nxt}
 use Rattle.paint.specs.Colours.{Coloured}
 use Rattle.prune.specs.Chain.{Follows}
@@ -192,10 +192,9 @@ module _ (c : Call) (e : trimRefusal c ≡ 0) where
   -- the part was trimmed, what is left measured, and the working memory cleared
   module _ {w₁ r : List ℕ} (z : Ran (graph (c .n) (c .sources) (c .targets)) (c .part) (c .numbers) (c .left) w₁ r) where
     low : (v : ℕ) → T (mark (leftOf c) v) → v < c .n
-    low v t = lower (core-is (graph (c .n) (c .sources) (c .targets)) (members (c .n) (c .part)) (λ u y. lower y) .inside v t)
-      where
-        lower : {v : ℕ} → T (members (c .n) (c .part) v) → v < c .n
-        lower {v} y = ltb→lt v (c .n) (and-l (ltb v (c .n)) _ y)
+    low v t =
+        let i = core-is (graph (c .n) (c .sources) (c .targets)) (members (c .n) (c .part)) (λ u y. members-out (c .n) (c .part) u y .0) .inside v t in
+        members-out (c .n) (c .part) v i .0
 
     above : (v : ℕ) → c .n ≤ v → bit r v ≡ 0
     above v l = z .set v ∙ ap (λ (t : Bool). cond t 1 0) (same-test (mark (leftOf c) v) false (λ t. absurd (omega (arith, low v t))) (λ t. absurd t))
