@@ -14,14 +14,11 @@ use Rattle.graph.specs.Limits.{wordsNeeded, Enough, noPath, roomShort}
 use Rattle.graph.specs.Refusal.{given, _or_}
 use Rattle.memory.specs.Memory.{Zeroed, ClearAsk, Cleared}
 use Rattle.memory.proofs.Memory.{zeroed-after}
-use Rattle.graph.specs.Paths.{Path·of, walk}
 use Rattle.graph.proofs.Refusals.{or-stop, or-none, or-most, given-none, given-most, or-left-none, not-lacking, table-most, Passed, table-passed, passed-valid}
-use Rattle.graph.proofs.Distance.{dist-is, dist-reached}
-use Rattle.graph.proofs.Paths.{walk-path, path-least}
 use Rattle.paths.specs.declared.Answer.{Answer}
 use Rattle.paths.specs.declared.Answer.the-variants.{Done, Refused}
 use Rattle.paths.specs.Walk.{FindAsk, Prepared, Settled}
-use Rattle.paths.specs.Promise.{Call, collection, distance, numbersOf, askRefusal, firstRefusal, pathRefusal, Left, Finished, Denied, Promise}
+use Rattle.paths.specs.Promise.{Call, collection, distance, numbersOf, askRefusal, firstRefusal, pathRefusal, Left, Promise}
 
 -- WHAT IS REFUSED BEFORE THE SEARCH
 -- the numbers are below 11
@@ -50,7 +47,7 @@ module _ (c : Call) (pass : firstRefusal c ≡ 0) where
         v-low = leb-false (c .n) (c .v) q;
       }
 
-  valid : Valid (collection c)
+  pub valid : Valid (collection c)
   valid = passed-valid (c .n) (c .sources) (c .targets) (admitted .passed)
 
   pub find-ask : FindAsk (collection c) (c .u) (c .numbers)
@@ -69,15 +66,15 @@ module _ (c : Call) (pass : firstRefusal c ≡ 0) where
   }
 
   -- AFTER THE SEARCH
-  far-refused : c .n ≤ distance c → pathRefusal c ≡ noPath
+  pub far-refused : c .n ≤ distance c → pathRefusal c ≡ noPath
   unfolding pathRefusal given _or_
   far-refused h = rw (pass, le-leb (c .n) (distance c) h)
 
-  short-refused : distance c < c .n → length (c .room) < distance c → pathRefusal c ≡ roomShort
+  pub short-refused : distance c < c .n → length (c .room) < distance c → pathRefusal c ≡ roomShort
   unfolding pathRefusal given _or_
   short-refused h l = rw (pass, lt-leb (c .n) (distance c) h, lt-ltb (length (c .room)) (distance c) l)
 
-  not-refused : distance c < c .n → distance c ≤ length (c .room) → pathRefusal c ≡ 0
+  pub not-refused : distance c < c .n → distance c ≤ length (c .room) → pathRefusal c ≡ 0
   unfolding pathRefusal given _or_
   not-refused h l = rw (pass, lt-leb (c .n) (distance c) h, le-ltb (length (c .room)) (distance c) l)
 
@@ -88,11 +85,8 @@ module _ (c : Call) (pass : firstRefusal c ≡ 0) where
 
     pub settled-promise : (a : Answer) → Settled (collection c) (c .u) (c .v) (c .room) room a → Promise c room numbers words a
     settled-promise (Done d) s = record {
-      none = not-refused (omega (arith, s .is, s .low)) (omega (arith, s .is, s .fits));
-      shortest = s .is;
-      written = s .walked;
-      numbers-left = zeroed;
-      words-left = z .words-zero;
+      refusal = sym (not-refused (omega (arith, s .is, s .low)) (omega (arith, s .is, s .fits)));
+      gives = record { shortest = s .is; written = s .walked; numbers-left = zeroed; words-left = z .words-zero };
     }
     settled-promise (Refused k) s = ⊎-elim
         (λ t. denied noPath (far-refused (t .1)) (λ q. omega (arith, q)) zeroed (z .words-zero) k (t .0))
@@ -100,34 +94,24 @@ module _ (c : Call) (pass : firstRefusal c ≡ 0) where
         (s .why)
       where
         denied : (j : ℕ) → pathRefusal c ≡ j → (j ≡ 0 → ⊥) → Left (leb noPath j) (numbersOf c) (c .numbers) numbers → Left (leb noPath j) (wordsNeeded (c .n)) (c .words) words
-            → (k : ℕ) → k ≡ j → Denied c room numbers words k
-        denied j r o a b k q = rw q (record { applies = r; some = o; room-same = s .room-same; numbers-left = a; words-left = b })
+            → (k : ℕ) → k ≡ j → Promise c room numbers words (Refused k)
+        denied j r o a b k q = record { refusal = q ∙ sym r; gives = rw q (record { refused = o; room-same = s .room-same; numbers-left = a; words-left = b }) }
 
 -- refused before the search, with nothing changed
-pub first-refused : (c : Call) (k : ℕ) → k ≡ firstRefusal c → (k ≡ 0 → ⊥) → Denied c (c .room) (c .numbers) (c .words) k
+pub first-refused : (c : Call) (k : ℕ) → k ≡ firstRefusal c → (k ≡ 0 → ⊥) → Promise c (c .room) (c .numbers) (c .words) (Refused k)
 unfolding pathRefusal
 first-refused c k e o =
     let l : leb noPath k ≡ false = lt-leb noPath k (omega (arith, e, ask-most (c .n) (c .sources) (c .targets) (c .u) (c .v) (length (c .numbers)) (length (c .words)))) in
     record {
-      applies = or-stop _ _ (λ q. o (e ∙ q)) ∙ sym e;
-      some = o;
-      room-same = refl;
-      numbers-left = left (leb noPath k) l (numbersOf c) (c .numbers);
-      words-left = left (leb noPath k) l (wordsNeeded (c .n)) (c .words);
+      refusal = e ∙ sym (or-stop _ _ (λ q. o (e ∙ q)));
+      gives = record {
+        refused = o;
+        room-same = refl;
+        numbers-left = left (leb noPath k) l (numbersOf c) (c .numbers);
+        words-left = left (leb noPath k) l (wordsNeeded (c .n)) (c .words);
+      };
     }
   where
     left : (b : Bool) → b ≡ false → (k : ℕ) (w : List ℕ) → Left b k w w
     left true q k w = let z : _≡_ {A = ℕ} 0 1 = cc in absurd (omega arith)
     left false q k w = refl
-
--- THE PATH IS A SHORTEST ONE
-pub path-shortest : (c : Call) (room numbers words : List ℕ) (d : ℕ) → Finished c room numbers words d
-    → Path·of (collection c) (walk (collection c) (c .u) d (c .v)) (c .u) (c .v) × ((es : List ℕ) → Path·of (collection c) es (c .u) (c .v) → d ≤ length es)
-unfolding pathRefusal
-path-shortest c room numbers words d f =
-    let (pass, r) = or-none _ _ (f .none) in
-    let (near, _) = or-none _ _ r in
-    let ok = passed-valid (c .n) (c .sources) (c .targets) (admitted c pass .passed) in
-    let low : distance c < c .n = leb-false (c .n) (distance c) (given-none 11 _ (suc-ne-zero 10) near) in
-    let i = dist-is ok (c .u) (c .v) (admitted c pass .u-low) (admitted c pass .v-low) (dist-reached ok (c .u) (c .v) (admitted c pass .u-low) (admitted c pass .v-low) .0 low) in
-    rw (f .shortest) (walk-path ok (c .u) (admitted c pass .u-low) (distance c) (c .v) (admitted c pass .v-low) i, λ es p. path-least i p)

@@ -19,20 +19,24 @@ left-one false k w x y p q = p ∙ sym q
 pub path-one : (c : Call) (r w x r' w' x' : List ℕ) (a a' : Answer) → Promise c r w x a → Promise c r' w' x' a'
     → (a ≡ a') × (r ≡ r') × (w ≡ w') × (x ≡ x')
 path-one c r w x r' w' x' (Done d) (Done d') p q =
-    let e : d ≡ d' = p .shortest ∙ sym (q .shortest) in (
+    let y = p .gives in
+    let z = q .gives in
+    let e : d ≡ d' = y .shortest ∙ sym (z .shortest) in (
       ap Done e,
-      p .written ∙ ap (λ (d : ℕ). walk (collection c) (c .u) d (c .v) ++ drop d (c .room)) e ∙ sym (q .written),
-      zeroed-one (p .numbers-left) (q .numbers-left),
-      zeroed-one (p .words-left) (q .words-left),
+      y .written ∙ ap (λ (d : ℕ). walk (collection c) (c .u) d (c .v) ++ drop d (c .room)) e ∙ sym (z .written),
+      zeroed-one (y .numbers-left) (z .numbers-left),
+      zeroed-one (y .words-left) (z .words-left),
     )
-path-one c r w x r' w' x' (Done d) (Refused k) p q = absurd (q .some (sym (q .applies) ∙ p .none))
-path-one c r w x r' w' x' (Refused k) (Done d) p q = absurd (p .some (sym (p .applies) ∙ q .none))
+path-one c r w x r' w' x' (Done d) (Refused k) p q = absurd (q .gives .refused (q .refusal ∙ sym (p .refusal)))
+path-one c r w x r' w' x' (Refused k) (Done d) p q = absurd (p .gives .refused (p .refusal ∙ sym (q .refusal)))
 path-one c r w x r' w' x' (Refused k) (Refused k') p q =
-    let e : k ≡ k' = sym (p .applies) ∙ q .applies in
-    let m : Left (leb noPath k) (numbersOf c) (c .numbers) w' = rw e (q .numbers-left) in
-    let n : Left (leb noPath k) (wordsNeeded (c .n)) (c .words) x' = rw e (q .words-left) in (
+    let y = p .gives in
+    let z = q .gives in
+    let e : k ≡ k' = p .refusal ∙ sym (q .refusal) in
+    let m : Left (leb noPath k) (numbersOf c) (c .numbers) w' = rw e (z .numbers-left) in
+    let n : Left (leb noPath k) (wordsNeeded (c .n)) (c .words) x' = rw e (z .words-left) in (
       ap Refused e,
-      p .room-same ∙ sym (q .room-same),
-      left-one (leb noPath k) (numbersOf c) (c .numbers) w w' (p .numbers-left) m,
-      left-one (leb noPath k) (wordsNeeded (c .n)) (c .words) x x' (p .words-left) n,
+      y .room-same ∙ sym (z .room-same),
+      left-one (leb noPath k) (numbersOf c) (c .numbers) w w' (y .numbers-left) m,
+      left-one (leb noPath k) (wordsNeeded (c .n)) (c .words) x x' (y .words-left) n,
     )

@@ -54,21 +54,30 @@ abbrev pub Left : Bool → ℕ → List ℕ → List ℕ → Type 0
 Left true k w w' = Zeroed k w w'
 Left false k w w' = w' ≡ w
 
-pub record Finished (c : Call) (room numbers words : List ℕ) (length : ℕ) : Type 0 where
-  pub none : pathRefusal c ≡ 0
-  pub shortest : length ≡ distance c
-  pub written : room ≡ walk (collection c) (c .u) length (c .v) ++ drop length (c .room)
+-- the number of an answer
+abbrev pub number : Answer → ℕ
+number (Done d) = 0
+number (Refused k) = k
+
+-- done: the distance, the path in the front of the room, and the working memory
+pub record Finished (c : Call) (room numbers words : List ℕ) (d : ℕ) : Type 0 where
+  pub shortest : d ≡ distance c
+  pub written : room ≡ walk (collection c) (c .u) d (c .v) ++ drop d (c .room)
   pub numbers-left : Zeroed (numbersOf c) (c .numbers) numbers
   pub words-left : Zeroed (wordsNeeded (c .n)) (c .words) words
 
--- a refusal: 11 and 12 come after the search
+-- refused: the room is as it was; 11 and 12 come after the search
 pub record Denied (c : Call) (room numbers words : List ℕ) (k : ℕ) : Type 0 where
-  pub applies : pathRefusal c ≡ k
-  pub some : k ≡ 0 → ⊥
+  pub refused : k ≡ 0 → ⊥
   pub room-same : room ≡ c .room
   pub numbers-left : Left (leb noPath k) (numbersOf c) (c .numbers) numbers
   pub words-left : Left (leb noPath k) (wordsNeeded (c .n)) (c .words) words
 
-abbrev pub Promise : Call → (room numbers words : List ℕ) → Answer → Type 0
-Promise c r w x (Done d) = Finished c r w x d
-Promise c r w x (Refused k) = Denied c r w x k
+-- the values of an answer, and the final contents of what was lent
+abbrev pub Gives : Call → (room numbers words : List ℕ) → Answer → Type 0
+Gives c room numbers words (Done d) = Finished c room numbers words d
+Gives c room numbers words (Refused k) = Denied c room numbers words k
+
+pub record Promise (c : Call) (room numbers words : List ℕ) (a : Answer) : Type 0 where
+  pub refusal : number a ≡ pathRefusal c
+  pub gives : Gives c room numbers words a
