@@ -14,7 +14,7 @@ abbrev μ-loop : tie.MeasureT-loop
 μ-loop sources w eb b i0 t d i₀ i = t - i
 
 loop-holds : tie.Need-loop-holds Inv-loop μ-loop
-loop-holds c = record { low = omega arith; high = c .pre .order; before = λ j h q. absurd (omega arith) }
+loop-holds c = record { low = omega arith; high = omega arith; before = λ j h q. absurd (omega arith) }
 
 -- the number at the place is an edge's, and its source has a colour
 edge : (c : tie.In-loop Inv-loop μ-loop) → let s = c .before .before .args in getD (s .w .now) (s .eb + c .before .loop .i) 0 < length (s .sources .now)
