@@ -13,7 +13,6 @@ use lib.Dec.{T, eqb, eqb→eq}
 use borrow.Author.Tests.{leb-false}
 use Rattle.graph.specs.Graph.{Graph, Valid, IsEdge, Edge, Chain, Reach, all, edges, from, to}
 use Rattle.graph.specs.Limits.{noPath, roomShort}
-use Rattle.graph.specs.Refusal.{given, _or_}
 use Rattle.graph.specs.Certificate.{IsDist, distOf}
 use Rattle.graph.specs.Paths.{Path·of, nearer, walk}
 use Rattle.graph.proofs.Tests.{and-l, and-r, and-make, eq-T, least-passes, least-first}

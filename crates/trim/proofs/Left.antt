@@ -1,7 +1,7 @@
 -- What is left is the greatest tight part of the part given.
 use Prim.Native.Nat.{ℕ}
 use native.Mathlib.Omega.{arith}
-use mathlib.Core.Path.{_≡_, _∙_}
+use mathlib.Core.Path.{_∙_}
 use mathlib.Core.Logic.{_↔_}
 use mathlib.Core.List.{List}
 use lib.Dec.{T}
@@ -9,7 +9,7 @@ use Rattle.graph.specs.Graph.{Graph, Part, graph}
 use Rattle.graph.specs.Numbers.{mark}
 use Rattle.graph.specs.Parts.{IsCore}
 use Rattle.graph.specs.Search.{part}
-use Rattle.graph.specs.Sets.{bit, Members, members}
+use Rattle.graph.specs.Sets.{Members, members}
 use Rattle.graph.proofs.Tests.{T-dec, cond-true, cond-false}
 use Rattle.graph.proofs.Trim.{core-is}
 use Rattle.sets.proofs.Sizes.{members-in, members-out}
