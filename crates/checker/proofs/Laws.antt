@@ -141,10 +141,10 @@ module _ (c : Call) where
 
 -- the verdict of a loop over the edges, and of one over the vertices
 module _ (g : Graph) (c : Columns) where
-  abbrev wrong : ℕ → Bool
+  abbrev pub wrong : ℕ → Bool
   wrong v = not (eqb (fault g c v) 0)
 
-  abbrev wrong-edge : ℕ → Bool
+  abbrev pub wrong-edge : ℕ → Bool
   wrong-edge e = not (check5 g c e)
 
   pub edge-failed : {e : ℕ} {r : Bool} → e < edges g → ((j : ℕ) → j < e → wrong-edge j ≡ false) → r ≡ check5 g c e → not r ≡ true → outcome (Failed 5 e) ≡ done (edgeVerdict g c)

@@ -1,2 +1,3 @@
 pub mod Contract
 pub mod Promise
+pub mod Answer
