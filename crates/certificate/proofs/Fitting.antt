@@ -15,13 +15,7 @@ use Rattle.graph.proofs.Tests.{T-true}
 use Rattle.graph.proofs.Chains.{chain-end, chain-last, chain-snoc, chain-still, edge-from-low}
 use Rattle.graph.proofs.Least.{least-found}
 use Rattle.classes.specs.Classes.{class, OwnLabels, Distances}
-use Rattle.certificate.specs.Entries.{fits, FirstFit, Entries}
-
--- what a fit says
-pub record Fit (g : Graph) (lab : List ℕ) (d : ℕ → ℕ) (e v : ℕ) : Type 0 where
-  pub enters : to g e ≡ v
-  pub same : at lab (from g e) ≡ at lab v
-  pub nearer : d v ≡ d (from g e) + 1
+use Rattle.certificate.specs.Entries.{Fit, fits, FirstFit, Entries}
 
 three : (a b c : Bool) → (a && b && c) ≡ true → (a ≡ true) × (b ≡ true) × (c ≡ true)
 three true true true q = (refl, refl, refl)
@@ -39,6 +33,21 @@ module _ (g : Graph) (lab : List ℕ) (d : ℕ → ℕ) (e v : ℕ) where
   pub fits-make : Fit g lab d e v → fits g lab d e v ≡ true
   unfolding fits
   fits-make f = rw (eq-eqb (to g e) v (f .enters), eq-eqb (at lab (from g e)) (at lab v) (f .same), eq-eqb (d v) (d (from g e) + 1) (f .nearer))
+
+-- the checker's test of an in-edge is this one, where every edge counts
+module _ {g : Graph} (ok : Valid g) (lab dist : List ℕ) (d : ℕ → ℕ) (counts : (e : ℕ) → T (g .counted e)) (same : (v : ℕ) → v < g .n → d v ≡ at dist v) (low : (v : ℕ) → v < g .n → d v < g .n) where
+  pub entry-fits : (e v : ℕ) → e < edges g → v < g .n → entry g lab dist e v ≡ fits g lab d e v
+  unfolding entry fits
+  entry-fits e v m l =
+      let lx : from g e < g .n = ok .from-low e m in
+      let c : g .counted e ≡ true = T-true (g .counted e) (counts e) in
+      rw (lt-ltb e (edges g) m, c, ← (same v l), ← (same (from g e) lx), lt-ltb (d v) (g .n) (low v l))
+      (and-true (eqb (to g e) v) (eqb (at lab (from g e)) (at lab v)) (eqb (d v) (d (from g e) + 1)))
+    where
+      and-true : (a b c : Bool) → (a && b && true && c) ≡ (a && b && c)
+      and-true true true c = refl
+      and-true true false c = refl
+      and-true false b c = refl
 
 module _ {g : Graph} (ok : Valid g) (lab : List ℕ) (own : OwnLabels (g .n) lab) (d : ℕ → ℕ) (near : Distances g lab d) where
   -- a label is at distance 0, and no edge fits it
@@ -84,19 +93,6 @@ module _ {g : Graph} (ok : Valid g) (lab : List ℕ) (own : OwnLabels (g .n) lab
 
     -- the certificate's entry
     module _ (counts : (e : ℕ) → T (g .counted e)) (dist : List ℕ) (same : (v : ℕ) → v < g .n → d v ≡ at dist v) (low : (v : ℕ) → v < g .n → d v < g .n) where
-      entry-fits : (e v : ℕ) → e < edges g → v < g .n → entry g lab dist e v ≡ fits g lab d e v
-      unfolding entry fits
-      entry-fits e v m l =
-          let lx : from g e < g .n = ok .from-low e m in
-          let c : g .counted e ≡ true = T-true (g .counted e) (counts e) in
-          rw (lt-ltb e (edges g) m, c, ← (same v l), ← (same (from g e) lx), lt-ltb (d v) (g .n) (low v l))
-          (and-true (eqb (to g e) v) (eqb (at lab (from g e)) (at lab v)) (eqb (d v) (d (from g e) + 1)))
-        where
-          and-true : (a b c : Bool) → (a && b && true && c) ≡ (a && b && c)
-          and-true true true c = refl
-          and-true true false c = refl
-          and-true false b c = refl
-
       pub edge-least : (v : ℕ) → v < g .n → edge v ≡ cond (eqb (at lab v) v) noEdge (least (edges g) (λ e. entry g lab dist e v))
       edge-least v l = by-cases (ℕ-discrete (at lab v) v)
           (λ q. own-none v l q ∙ rw (eq-eqb (at lab v) v q))
@@ -106,5 +102,5 @@ module _ {g : Graph} (ok : Valid g) (lab : List ℕ) (own : OwnLabels (g .n) lab
           other o (inl (z, none)) = let (e, m, t) = fit-there v l o in let y : true ≡ false = sym t ∙ none e (omega arith) m in let x : _≡_ {A = ℕ} 0 1 = cc in absurd (omega arith)
           other o (inr (_, m, f, none)) =
               least-found (edges g) (λ e. entry g lab dist e v) (edge v) m
-              (λ e k. entry-fits e v (omega arith) l ∙ none e (omega arith) k)
-              (entry-fits (edge v) v m l ∙ f)
+              (λ e k. entry-fits ok lab dist d counts same low e v (omega arith) l ∙ none e (omega arith) k)
+              (entry-fits ok lab dist d counts same low (edge v) v m l ∙ f)

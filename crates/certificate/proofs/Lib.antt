@@ -5,3 +5,5 @@ pub mod Offering
 pub mod Working
 pub mod Writing
 pub mod Unique
+pub mod Columns
+pub mod Demand

@@ -15,10 +15,10 @@ use Rattle.graph.proofs.Chains.{reach-edge}
 use Rattle.graph.proofs.Search.{count}
 use Rattle.graph.proofs.Rank.{behind-le, behind-lt}
 use Rattle.classes.specs.Classes.{OwnLabels, Distances}
-use Rattle.certificate.specs.Entries.{FirstFit, Entries}
+use Rattle.certificate.specs.Entries.{Fit, FirstFit, Entries}
 use Rattle.ranks.specs.Ranks.{lead, rise, Peeled, Stuck, Ranks}
 use Rattle.classes.proofs.Inside.{right-tells}
-use Rattle.certificate.proofs.Fitting.{Fit, fits-says, own-none, edge-fits}
+use Rattle.certificate.proofs.Fitting.{fits-says, own-none, edge-fits}
 use Rattle.ranks.proofs.Leads.{lead-change, lead-in, awaits}
 
 module _ {g : Graph} (ok : Valid g) (lab : List ℕ) (own : OwnLabels (g .n) lab) (d inEdge : ℕ → ℕ) (near : Distances g lab d) (first : Entries g lab d inEdge) (few : edges g ≤ mostEdges) where

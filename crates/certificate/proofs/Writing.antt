@@ -13,7 +13,7 @@ use lib.Dec.{eqb, T-not}
 use borrow.Author.Tests.{ne-eqb}
 use Rattle.graph.specs.Graph.{Valid}
 use Rattle.graph.specs.Numbers.{some-below}
-use Rattle.graph.specs.Search.{labelOf}
+use Rattle.graph.specs.Search.{labelOf, labels}
 use Rattle.graph.specs.Limits.{wrongLabels, numbersNeeded, Enough}
 use Rattle.graph.specs.Refusal.{given, _or_}
 use Rattle.memory.specs.Memory.{ClearAsk, Cleared, Copied}
@@ -21,6 +21,7 @@ use Rattle.graph.specs.Checker.{Columns, Sized, at}
 use Rattle.graph.specs.Certificate.{Right, certificate, ranks, distances, entries}
 use Rattle.graph.proofs.Tests.{T-true, no-T, eq-T, some-below-iff, length-table}
 use Rattle.graph.proofs.Search.{label-is, label-eq}
+use Rattle.graph.proofs.Certificate.{right-labels, right-unique}
 use Rattle.graph.proofs.Refusals.{or-stop, or-none, or-most, given-none, given-most, not-lacking, Passed, passed-valid}
 use Rattle.memory.proofs.Memory.{zeroed-after}
 use Rattle.checker.specs.Promise.{checkerRefusal}
@@ -38,15 +39,15 @@ pub record Ready (c : Call) : Type 0 where
 module _ (c : Call) where
   pub early-low : earlyRefusal c ≤ 6
   unfolding earlyRefusal
-  early-low = or-most _ _ 6 (omega (arith, call-most (checked c))) (given-most 6 _ 6 (omega arith))
+  early-low = or-most _ _ 6 (omega (arith, call-most (checked c (c .lends)))) (given-most 6 _ 6 (omega arith))
 
   pub early-ready : earlyRefusal c ≡ 0 → Ready c
   unfolding earlyRefusal
   early-ready e =
-      let (e5, e6) = or-none (checkerRefusal (checked c)) _ e in
+      let (e5, e6) = or-none (checkerRefusal (checked c (c .lends))) _ e in
       record {
-        passed = call-passed (checked c) e5;
-        sized = call-ready (checked c) e5 .sized;
+        passed = call-passed (checked c (c .lends)) e5;
+        sized = call-ready (checked c (c .lends)) e5 .sized;
         memory = not-lacking (c .n) (length (c .sources)) (length (c .lends .numbers)) (length (c .lends .words)) (given-none 6 _ (suc-ne-zero 5) e6);
       }
 
@@ -101,7 +102,7 @@ module _ (c : Call) where
         }
 
     -- right labels are those that the test lets pass
-    right-passes : Right (table c) (c .label) → wrongLabel (table c) (c .label) ≡ false
+    pub right-passes : Right (table c) (c .label) → wrongLabel (table c) (c .label) ≡ false
     unfolding wrongLabel
     right-passes right = no-T (some-below (c .n) _) (λ t.
         let (v, l, s) = some-below-iff (c .n) (λ v. not (eqb (at (c .label) v) (labelOf (table c) v))) .0 t in
@@ -113,7 +114,7 @@ module _ (c : Call) where
         (λ z. rw z (label-is valid v l))
         (λ o. absurd (clash _ (T-true _ (some-below-iff (c .n) (λ v. not (eqb (at (c .label) v) (labelOf (table c) v))) .1 (v, l, rw (ne-eqb (at (c .label) v) (labelOf (table c) v) o) tt))) q))
 
-    wrong-fails : (Right (table c) (c .label) → ⊥) → wrongLabel (table c) (c .label) ≡ true
+    pub wrong-fails : (Right (table c) (c .label) → ⊥) → wrongLabel (table c) (c .label) ≡ true
     wrong-fails o = go (wrongLabel (table c) (c .label)) refl
       where
         go : (b : Bool) → wrongLabel (table c) (c .label) ≡ b → wrongLabel (table c) (c .label) ≡ true
@@ -179,3 +180,17 @@ ready-of c e = let r = early-ready c (or-none (earlyRefusal c) _ e .0) in (passe
 pub right-of : (c : Call) → writerRefusal c ≡ 0 → Right (table c) (c .label)
 unfolding writerRefusal
 right-of c e = let (p, q) = or-none (earlyRefusal c) _ e in passes-right c refl p (given-none 10 _ (suc-ne-zero 9) q)
+
+-- what the label column says of the number, where the tests 1 to 6 pass
+pub right-none : (c : Call) → earlyRefusal c ≡ 0 → c .label ≡ labels (table c) → writerRefusal c ≡ 0
+unfolding writerRefusal given _or_
+right-none c e q =
+    let ok = passed-valid (c .n) (c .sources) (c .targets) (early-ready c e .passed) in
+    rw (e, right-passes c refl e (rw q (right-labels ok)))
+
+pub other-ten : (c : Call) → earlyRefusal c ≡ 0 → (c .label ≡ labels (table c) → ⊥) → writerRefusal c ≡ wrongLabels
+unfolding writerRefusal given _or_
+other-ten c e o =
+    let r = early-ready c e in
+    let ok = passed-valid (c .n) (c .sources) (c .targets) (r .passed) in
+    rw (e, wrong-fails c refl e (λ right. o (right-unique ok (c .label) (r .sized .label) right)))

@@ -9,6 +9,12 @@ use Rattle.graph.specs.Graph.{Graph, edges, from, to}
 use Rattle.graph.specs.Checker.{at, noEdge}
 
 -- e enters v from a vertex of the same label that is one step nearer
+pub record Fit (g : Graph) (lab : List ℕ) (d : ℕ → ℕ) (e v : ℕ) : Type 0 where
+  pub enters : to g e ≡ v
+  pub same : at lab (from g e) ≡ at lab v
+  pub nearer : d v ≡ d (from g e) + 1
+
+-- the same, computed
 unfoldable pub fits : Graph → List ℕ → (ℕ → ℕ) → ℕ → ℕ → Bool
 fits g lab d e v = eqb (to g e) v && eqb (at lab (from g e)) (at lab v) && eqb (d v) (d (from g e) + 1)
 

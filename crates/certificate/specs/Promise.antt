@@ -53,14 +53,14 @@ columns label l =
 unfoldable pub wrongLabel : Graph → List ℕ → Bool
 wrongLabel g lab = some-below (g .n) (λ v. not (eqb (at lab v) (labelOf g v)))
 
--- the table and the columns as the checker tests them
-abbrev pub checked : Call → checker.Call
-checked c = record { n = c .n; sources = c .sources; targets = c .targets; given-columns = columns (c .label) (c .lends) }
+-- the checker asked about the same table, the labels and what is lent for the other five columns
+abbrev pub checked : Call → Lent → checker.Call
+checked c l = record { n = c .n; sources = c .sources; targets = c .targets; given-columns = columns (c .label) l }
 
 -- the first of 1 to 6 that applies, else 0
 unfoldable pub earlyRefusal : Call → ℕ
 earlyRefusal c =
-    checkerRefusal (checked c) or given memoryShort (lacking (c .n) (length (c .sources)) (length (c .lends .numbers)) (length (c .lends .words)))
+    checkerRefusal (checked c (c .lends)) or given memoryShort (lacking (c .n) (length (c .sources)) (length (c .lends .numbers)) (length (c .lends .words)))
 
 -- the first of 1 to 6 and 10 that applies, else 0
 unfoldable pub writerRefusal : Call → ℕ

@@ -2,15 +2,15 @@
 use Prim.Native.Nat.{ℕ, _+_, _≤_, _<_}
 use native.Mathlib.Omega.{arith}
 use native.Mathlib.Nat.{suc-ne-zero}
-use mathlib.Core.Path.{_≡_, sym, ap, subst, _∙_}
+use mathlib.Core.Path.{_≡_, refl, sym, ap, subst, _∙_}
 use mathlib.Core.Bool.{Bool, true, false, not}
 use mathlib.Core.List.{List, []}
 use lib.ListN.{length}
 use lib.Dec.{leb, eqb, leb→le, eqb→eq}
-use borrow.Author.Tests.{eqb-true, ne-eqb, lt-ltb, le-ltb, not-true, not-false}
+use borrow.Author.Tests.{eqb-true, eq-eqb, ne-eqb, lt-ltb, le-ltb, not-true, not-false}
 use borrow.Author.Count.{below-more}
 use Rattle.graph.specs.Graph.{Graph, Valid, graph, rev, edges}
-use Rattle.graph.specs.Refusal.{tableRefusal}
+use Rattle.graph.specs.Refusal.{given, _or_, tableRefusal}
 use Rattle.graph.specs.Checker.{Columns, Sized, at, check1, check2, check3, check5, fault, verdict}
 use Rattle.graph.proofs.Tests.{and-split}
 use Rattle.graph.proofs.Chains.{graph-turned, valid-rev}
@@ -111,6 +111,11 @@ sized n c e =
       outDist = eqb-true _ n (not-false _ e6);
     }
 
+-- columns of the right sizes pass the test
+sizes-pass : (n : ℕ) (c : Columns) → Sized n c → wrongSize n c ≡ false
+unfolding wrongSize
+sizes-pass n c z = rw (z .label, z .rank, z .inEdge, z .inDist, z .outEdge, z .outDist, eq-eqb n n refl)
+
 module _ (c : Call) where
   abbrev table-of : Graph
   table-of = graph (c .n) (c .sources) (c .targets)
@@ -130,6 +135,11 @@ module _ (c : Call) where
     valid = passed-valid (c .n) (c .sources) (c .targets) (call-passed e);
     sized = sized (c .n) (c .given-columns) (given-none 5 _ (suc-ne-zero 4) (or-none (tableRefusal (c .n) (c .sources) (c .targets)) _ e .1));
   }
+
+  -- a table that is not refused, and columns of its size
+  pub ready-call : tableRefusal (c .n) (c .sources) (c .targets) ≡ 0 → Sized (c .n) (c .given-columns) → checkerRefusal c ≡ 0
+  unfolding checkerRefusal given _or_
+  ready-call e z = rw (e, sizes-pass (c .n) (c .given-columns) z)
 
   pub refused-promise : (k : ℕ) → k ≡ checkerRefusal c → (k ≡ 0 → ⊥) → Promise c (Refused k)
   unfolding promised outcome
