@@ -82,11 +82,12 @@ module _ (c : Call) where
           room = ready .memory .numbers;
         }
 
-    pub clear-ask : {w : List ℕ} → length w ≡ length (c .lends .numbers) → ClearAsk (c .n) (length (c .sources)) w (c .lends .words)
-    clear-ask q =
+    -- the memory of the call's counts, or of fewer, can be cleared: that it is all is the promise's matter
+    pub clear-ask : {w : List ℕ} → length w ≡ length (c .lends .numbers) → {i j : ℕ} → i ≤ c .n → j ≤ length (c .sources) → ClearAsk i j w (c .lends .words)
+    clear-ask q k l =
         record {
-          limits = record { small = ready .passed .small; few = ready .passed .few };
-          enough = record { numbers = omega (arith, ready .memory .numbers); words = ready .memory .words };
+          limits = record { small = omega (arith, ready .passed .small); few = omega (arith, ready .passed .few) };
+          enough = record { numbers = omega (arith, ready .memory .numbers); words = omega (arith, ready .memory .words) };
         }
 
     pub hand-ask : {w : List ℕ} → length w ≡ length (c .lends .numbers) → HandAsk (c .n) (length (c .sources)) w (c .lends .rank) (c .lends .inEdge) (c .lends .inDist) (c .lends .outEdge) (c .lends .outDist)

@@ -1,4 +1,5 @@
 use Rattle.certificate.proofs.Writing.{refused-promise, work-ask, clear-ask, hand-ask, wrong-promise, done-promise}
+use native.Mathlib.Omega.{arith}
 use borrow.Author.Needs.{needs}
 use Rattle.certificate.proofs.write.Statement.{statement}
 use Rattle.certificate.proofs.write.Tie as tie
@@ -34,7 +35,7 @@ work-requires : tie.Need-work-requires
 work-requires c κs = work-ask _ (c .before .before .refusal .ensures) (c .before .if1 .left)
 
 clear-requires : tie.Need-clear-requires
-clear-requires c κs = let wrong = c .before .before in let x = wrong .before .before .before in clear-ask _ (tested x .refusal .ensures) (x .before .before .if1 .left) (x .work .ensures .beyond .long)
+clear-requires c κs = let wrong = c .before .before in let x = wrong .before .before .before in clear-ask _ (tested x .refusal .ensures) (x .before .before .if1 .left) (x .work .ensures .beyond .long) (omega arith) (omega arith)
 
 returns-2 : tie.Need-returns-2
 returns-2 c = search wrong-promise
@@ -43,7 +44,7 @@ hand-requires : tie.Need-hand-requires
 hand-requires c κs = let x = worked (right c) in hand-ask _ (tested x .refusal .ensures) (x .before .before .if1 .left) (x .work .ensures .beyond .long)
 
 clear-requires-2 : tie.Need-clear-requires-2
-clear-requires-2 c κs = let x = worked (right (handed c .before)) in clear-ask _ (tested x .refusal .ensures) (x .before .before .if1 .left) (x .work .ensures .beyond .long)
+clear-requires-2 c κs = let x = worked (right (handed c .before)) in clear-ask _ (tested x .refusal .ensures) (x .before .before .if1 .left) (x .work .ensures .beyond .long) (omega arith) (omega arith)
 
 returns-3 : tie.Need-returns-3
 returns-3 c =
