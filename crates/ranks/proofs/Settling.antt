@@ -76,7 +76,7 @@ module _ {n : ℕ} {y : Arrows} {lab : List ℕ} {b u e k t : ℕ} {w : List ℕ
     queue-room : k < n
     queue-room = room-left (a .ground .valid) lab (a .course .inEdge) (a .course .peels) e (a .low) (a .fresh) source t leads t-low
 
-    module _ {r : ℕ} (risen : Risen lab u (to (on n y) e) r) {w₁ : List ℕ} (x : Raised (ranksAt n b + t) (region (ranksAt n b) w u + r) w w₁) where
+    module _ {z : ℕ} {w₁ : List ℕ} (x : Raised (ranksAt n b + t) z w w₁) where
       else-one : (j : ℕ) → (j ≡ ranksAt n b + t → ⊥) → getD w₁ j 0 ≡ getD w j 0
       else-one j o = by-cases (decLt j (ranksAt n b + t)) (λ l. x .framed .low j l) (λ h. x .framed .high j (omega arith))
 
@@ -138,32 +138,33 @@ module _ {n : ℕ} {y : Arrows} {lab : List ℕ} {b u e k t : ℕ} {w : List ℕ
         queue-front : (i : ℕ) → i < k → region (queueAt n b) w′ i ≡ region (queueAt n b) w i
         queue-front i l = others (queueAt n b + i) (λ q. omega (arith, queue-room)) (λ q. omega (arith, queue-room)) (λ q. omega arith)
 
-        sum : region (ranksAt n b) w u + r ≡ region (ranksAt n b) w (from (on n y) e) + rise (on n y) lab e
-        unfolding rise
-        sum = rw (a .leaves, risen .is)
+        module _ {r : ℕ} (risen : Risen lab u (to (on n y) e) r) (is : z ≡ region (ranksAt n b) w u + r) where
+          sum : z ≡ region (ranksAt n b) w (from (on n y) e) + rise (on n y) lab e
+          unfolding rise
+          sum = is ∙ rw (a .leaves, risen .is)
 
-        either-rank : (region (ranksAt n b) w′ t ≡ region (ranksAt n b) w t) ⊎ (region (ranksAt n b) w′ t ≡ region (ranksAt n b) w (from (on n y) e) + rise (on n y) lab e)
-        either-rank = ⊎-elim (λ q. inl (at-rank ∙ q)) (λ q. inr (at-rank ∙ q ∙ sum)) (x .either)
+          either-rank : (region (ranksAt n b) w′ t ≡ region (ranksAt n b) w t) ⊎ (region (ranksAt n b) w′ t ≡ region (ranksAt n b) w (from (on n y) e) + rise (on n y) lab e)
+          either-rank = ⊎-elim (λ q. inl (at-rank ∙ q)) (λ q. inr (at-rank ∙ q ∙ sum)) (x .either)
 
-        pub settle-end : Settled (on n y) lab b e k w w′ k′ (a .course)
-        settle-end =
-            record {
-              onward =
-                  record {
-                    frame =
-                        record {
-                          long = settle-long;
-                          low = λ j l. others j (λ q. omega arith) (λ q. omega arith) (λ q. omega arith);
-                          mid = λ j l m. others j (λ q. omega arith) (λ q. omega arith) (λ q. omega (arith, queue-room));
-                          high = λ j l. others j (λ q. omega (arith, t-low)) (λ q. omega (arith, t-low)) (λ q. omega (arith, queue-room));
-                        };
-                    more = lengths f .0;
-                    front = queue-front;
-                    still = λ v l z. let o : v ≡ t → ⊥ = λ q. t-waits (rw q at z) in (counts-else v l o ∙ z, ranks-else v l o);
-                  };
-              peels =
-                  goes (a .ground .valid) lab (a .course .inEdge) (a .course .peels) e (a .low) (a .fresh) source t leads t-low
-                  (region (countsAt n b) w′) (region (ranksAt n b) w′) (region (queueAt n b) w′) k′
-                  at-count counts-else (omega (arith, at-rank, x .up)) (omega (arith, at-rank, x .over, sum)) either-rank ranks-else queue-front (push f)
-                  (omega (arith, a .bound, risen .low, sum));
-            }
+          pub settle-end : Settled (on n y) lab b e k w w′ k′ (a .course)
+          settle-end =
+              record {
+                onward =
+                    record {
+                      frame =
+                          record {
+                            long = settle-long;
+                            low = λ j l. others j (λ q. omega arith) (λ q. omega arith) (λ q. omega arith);
+                            mid = λ j l m. others j (λ q. omega arith) (λ q. omega arith) (λ q. omega (arith, queue-room));
+                            high = λ j l. others j (λ q. omega (arith, t-low)) (λ q. omega (arith, t-low)) (λ q. omega (arith, queue-room));
+                          };
+                      more = lengths f .0;
+                      front = queue-front;
+                      still = λ v l z. let o : v ≡ t → ⊥ = λ q. t-waits (rw q at z) in (counts-else v l o ∙ z, ranks-else v l o);
+                    };
+                peels =
+                    goes (a .ground .valid) lab (a .course .inEdge) (a .course .peels) e (a .low) (a .fresh) source t leads t-low
+                    (region (countsAt n b) w′) (region (ranksAt n b) w′) (region (queueAt n b) w′) k′
+                    at-count counts-else (omega (arith, at-rank, x .up)) (omega (arith, at-rank, x .over, sum)) either-rank ranks-else queue-front (push f)
+                    (omega (arith, a .bound, risen .low, sum));
+              }
