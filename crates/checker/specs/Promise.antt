@@ -47,6 +47,7 @@ unfoldable pub number : Outcome → ℕ
 number (done v) = 0
 number (refused k) = k
 
+-- what each case of the answer stands for
 unfoldable pub outcome : Verdict → Outcome
 outcome Accepted = done accepted
 outcome (Failed check place) = done (failed check place)
