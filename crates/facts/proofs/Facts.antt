@@ -5,16 +5,18 @@ use Rattle.graph.specs.Search.{round, within, labelOf, labels, looked}
 use Rattle.graph.specs.Sets.{word}
 use Rattle.graph.specs.Checker.{entry, check1, check2, check3, check5, fault, verdict}
 use Rattle.graph.specs.Certificate.{distOf, distances, climbed, rankOf, ranks, entries, certificate}
-use Rattle.graph.specs.Paths.{nearer, walk, pathAnswer}
+use Rattle.graph.specs.Paths.{nearer, walk}
 use Rattle.graph.specs.Summary.{summary, sharing}
-use Rattle.graph.specs.Refusal.{given, _or_, outside, tableRefusal}
+use Rattle.graph.specs.Refusal.{given, _or_, outside, tableRefusal, lacking}
+use Rattle.paths.specs.Promise.{askRefusal, pathRefusal}
 use Rattle.lines.specs.Pieces.{before, split}
 use Rattle.lines.specs.Numbers.{digitsOnly, valueFrom, numberOf, filled, words, andThen, numbersOf, content}
 use Rattle.text.specs.Market.{same, isComment, hasNone, passedOver, passOver, sizeRefusal, sized, sizeOf, entries as entryLines, asTable, atSize, fromSize, fromFirst, market}
 use Rattle.facts.specs.Facts.{Facts, Runs}
+use Rattle.facts.proofs.Marks.{word-marks}
 
 pub facts : Facts
-unfolding labels labelOf within round table least some-below many word looked certificate ranks rankOf climbed distances distOf entries entry pathAnswer walk nearer
+unfolding labels labelOf within round table least some-below many word looked certificate ranks rankOf climbed distances distOf entries entry walk nearer pathRefusal askRefusal tableRefusal lacking outside given _or_
 facts =
     record {
       p1 = refl;
@@ -26,7 +28,8 @@ facts =
       p6 = (refl, refl);
       p7 = (refl, refl);
       p8 = (refl, refl);
-      p9 = refl;
+      words-are-sets = word-marks;
+      p9 = (refl, refl);
       p9-room = refl;
       p10 = refl;
       p11 = refl;
