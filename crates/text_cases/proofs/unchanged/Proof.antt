@@ -10,6 +10,9 @@ Inv-loop xs from i₀ i = Unit {0}
 abbrev μ-loop : tie.MeasureT-loop
 μ-loop xs from i₀ i = length xs - i
 
+shared-slice-read-if1 : tie.Need-shared-slice-read-if1 Inv-loop μ-loop
+shared-slice-read-if1 c = search needs
+
 pub unchanged-spec : {M : Type 1} → statement M
 unchanged-spec =
     tie.close
@@ -18,7 +21,7 @@ unchanged-spec =
     μ-loop
     (λ c. search needs)
     (λ c. search needs)
-    (λ c. search needs)
+    shared-slice-read-if1
     (λ c. search needs)
     (λ c. search needs)
     (λ c. search needs)
