@@ -1,18 +1,13 @@
--- The writer's promise fixes the number and all that was lent; the checker accepts what is written, and only right labels are written for.
+-- The writer's promise fixes the number and all that was lent.
 use Prim.Native.Nat.{ℕ}
 use native.Mathlib.Decide.{ℕ-discrete}
-use mathlib.Core.Path.{_≡_, refl, sym, ap, _∙_}
+use mathlib.Core.Path.{_≡_, sym, ap, _∙_}
 use mathlib.Core.Logic.{by-cases}
 use mathlib.Core.List.{List}
 use Rattle.graph.specs.Limits.{wrongLabels}
-use Rattle.graph.specs.Search.{labels}
-use Rattle.graph.specs.Checker.{Columns, accepted, verdict}
-use Rattle.graph.specs.Certificate.{certificate}
+use Rattle.graph.specs.Checker.{Columns}
 use Rattle.memory.proofs.Memory.{zeroed-one}
-use Rattle.graph.proofs.Certificate.{right-unique, right-accepted}
-use Rattle.graph.proofs.Verdict.{accepted-verdict}
-use Rattle.certificate.specs.Promise.{Lent, lent, Call, table, columns, Tidied, Promise}
-use Rattle.certificate.proofs.Writing.{ready-of, right-of}
+use Rattle.certificate.specs.Promise.{Lent, lent, Call, columns, Tidied, Promise}
 
 -- equal columns and equal working memory are all that was lent
 lent-same : {rank rank′ inEdge inEdge′ inDist inDist′ outEdge outEdge′ outDist outDist′ numbers numbers′ words words′ : List ℕ}
@@ -38,16 +33,3 @@ module _ (c : Call) (a b : Lent) where
 
       wrong : k ≡ wrongLabels → a ≡ b
       wrong z = let (e, x) = p .wrong z in let (f, y) = q .wrong (sym same ∙ z) in one-lent (e ∙ sym f) x y
-
-module _ (c : Call) (after : Lent) (p : Promise c 0 after) where
-  -- THE LABELS THAT ARE WRITTEN FOR ARE THE LABELS
-  pub written-right : c .label ≡ labels (table c)
-  written-right =
-      let r = ready-of c (sym (p .number)) in
-      right-unique (r .0) (c .label) (r .1) (right-of c (sym (p .number)))
-
-  -- THE CHECKER ACCEPTS WHAT IS WRITTEN
-  pub written-accepted : verdict (table c) (columns (c .label) after) ≡ accepted
-  written-accepted =
-      let r = ready-of c (sym (p .number)) in
-      rw (p .written refl .0) (accepted-verdict (table c) (certificate (table c) (c .label)) (right-accepted (r .0) (c .label) (right-of c (sym (p .number)))))

@@ -10,12 +10,12 @@ use Rattle.graph.specs.Graph.{Graph, graph, rev}
 use Rattle.graph.specs.Numbers.{mark}
 use Rattle.graph.specs.Search.{every, reached, labels, looked}
 use Rattle.graph.specs.Sets.{bit, word}
-use Rattle.graph.specs.Checker.{Columns, Verdict, verdict, accepted, failed}
+use Rattle.graph.specs.Checker.{Columns, verdict, accepted, failed}
 use Rattle.graph.specs.Certificate.{certificate}
 use Rattle.graph.specs.Paths.{walk}
 use Rattle.graph.specs.Limits.{numbersNeeded, wordsNeeded}
 use Rattle.graph.specs.Pivot.{draw}
-use Rattle.graph.specs.Summary.{Summary, summary}
+use Rattle.graph.specs.Summary.{summary}
 use Rattle.graph.specs.Refusal.{tableRefusal}
 use Rattle.paths.specs.Promise.{Call, distance, pathRefusal}
 use Rattle.text.specs.Market.{Table, Result, market, banner, done as read, refused as unread}

@@ -3,7 +3,6 @@ use Prim.Native.Nat.{ℕ}
 use mathlib.Core.Path.{_≡_}
 use mathlib.Core.Bool.{Bool}
 use mathlib.Core.List.{List}
-use Rattle.sets.proofs.Unique.{Words}
 use Rattle.reach.specs.Search as reach
 use Rattle.reach.proofs.Unique.{search-one}
 use Rattle.trim.specs.Promise as trim
@@ -28,18 +27,18 @@ use Rattle.surface.specs.Summary.{Summed}
 use Rattle.surface.specs.Read.{Read}
 use Rattle.surface.specs.Labels.{Written}
 
-pub searched-one : (c : reach.Call) (b : Bool) (v e : ℕ) (r w ws r' w' ws' : List ℕ) (out out' : ℕ × ℕ × ℕ) → Words r → Words r'
+pub searched-one : (c : reach.Call) (b : Bool) (v e : ℕ) (r w ws r' w' ws' : List ℕ) (out out' : ℕ × ℕ × ℕ)
     → Searched c b v e r w ws out → Searched c b v e r' w' ws' out' → (out ≡ out') × (r ≡ r') × (w ≡ w') × (ws ≡ ws')
-searched-one c b v e r w ws r' w' ws' out out' f f' p q =
-    let (a, s, t, u) = search-one c b r w ws r' w' ws' (p .answer) (q .answer) f f' (p .promised) (q .promised) in
+searched-one c b v e r w ws r' w' ws' out out' p q =
+    let (a, s, t, u) = search-one c b r w ws r' w' ws' (p .answer) (q .answer) (p .promised) (q .promised) in
     let x = p .gives in
     let y = q .gives in
     (cc, s, t, u)
 
-pub trimmed-one : (c : trim.Call) (v : ℕ) (r w ws r' w' ws' : List ℕ) (out out' : ℕ × ℕ) → Words r → Words r'
+pub trimmed-one : (c : trim.Call) (v : ℕ) (r w ws r' w' ws' : List ℕ) (out out' : ℕ × ℕ)
     → Trimmed c v r w ws out → Trimmed c v r' w' ws' out' → (out ≡ out') × (r ≡ r') × (w ≡ w') × (ws ≡ ws')
-trimmed-one c v r w ws r' w' ws' out out' f f' p q =
-    let (a, s, t, u) = trim-one c r w ws r' w' ws' (p .answer) (q .answer) f f' (p .promised) (q .promised) in
+trimmed-one c v r w ws r' w' ws' out out' p q =
+    let (a, s, t, u) = trim-one c r w ws r' w' ws' (p .answer) (q .answer) (p .promised) (q .promised) in
     let x = p .gives in
     let y = q .gives in
     (cc, s, t, u)
