@@ -16,6 +16,14 @@ library() {
     rt staticlib "$1" >"target/$1.say" 2>&1 || tail -n 5 "target/$1.say"
 }
 
+# Proves a program and builds it, unless it is there and newer than all crates.
+program() {
+    local built=target/bin/$1
+    [ -f "$built" ] && [ -z "$(find crates crates.txt -newer "$built" -print -quit)" ] && return
+    mkdir -p target
+    rt check "$1" >"target/$1.say" 2>&1 || { tail -n 5 "target/$1.say" && false; }
+}
+
 # Compiles a source into an object.
 compile() {
     "$tools/bin/clang" --target=$machine -std=c99 -Wall -Wextra -Werror -O2 -fPIC -nostdinc -isystem tests/include -Iinclude -c "$1" -o "$2"

@@ -1,0 +1,2 @@
+#include <stddef.h>
+long write(int file, const void *bytes, size_t len);
