@@ -14,6 +14,8 @@ library() {
     rm -f "$archive"
     mkdir -p target
     rt staticlib "$1" >"target/$1.say" 2>&1 || tail -n 5 "target/$1.say"
+    # an archive assumes nothing of any function of C
+    ! grep '^logic=proved .* axioms=' "target/$1.say" || rm -f "$archive"
 }
 
 # Proves a program and builds it, unless it is there and newer than all crates.
