@@ -7,13 +7,13 @@
  *
  * What holds of every function here:
  * - Any arguments may be given. A slice is a pointer and the number of its entries, in this order; a null pointer with 0 entries is
- *   an empty slice. Every other pointer points at that many entries of its type, aligned as that type is. A single number that is
- *   lent (as *vertices) is not null.
+ *   an empty slice. Every other pointer points at that many entries of its type, aligned as that type is. A single number or struct
+ *   that is lent (as *vertices, *chooser) is not null.
  * - No memory that a function writes may overlap any other memory that it is given: of such calls nothing is promised.
  * - The result is TINOWEALA_DONE (0) or the number of the refusal. Each function names the numbers that it tests, in this order:
  *   where several apply, it gives the first.
- * - A refusal changes nothing that was lent, neither slices nor single numbers, but that 10, 11 and 12, where working memory is
- *   lent, leave its needed front zero.
+ * - A refusal changes nothing that was lent, neither slices nor single numbers nor structs, but that 10, 11 and 12, where working
+ *   memory is lent, leave its needed front zero.
  * - Working memory is two slices, numbers and words, at least tinoweala_numbers(n, m) and tinoweala_words(n) long for m edges, else
  *   6; it may hold anything. After a completed call this front is zero; what lies beyond it is as it was, after any call.
  * - Nothing is allocated, nothing is kept from one call to the next, and a call works on its arguments alone.
