@@ -11,7 +11,7 @@ use lib.Dec.{eqb}
 use borrow.Author.Tests.{eq-eqb, ne-eqb}
 use Rattle.graph.specs.Graph.{Graph}
 use Rattle.graph.specs.Pivot.{draw, draws, pivot}
-use Rattle.graph.specs.Apart.{Alike, Choice, Choices, unchosen, choice, Trims, Divides, ListAfter, Course, whole, onward, TakenApart}
+use Rattle.graph.specs.Apart.{Alike, Choice, Choices, unchosen, choice, Trims, Divides, next, ListAfter, Course, whole, onward, ChoiceAt, TakenApart}
 use Rattle.memory.specs.Decomposer.{own}
 
 -- draws after draws
@@ -53,19 +53,19 @@ module _ {g : Graph} {slicing q kind state state' : ℕ} {list list' : List ℕ}
   pub divides-agree : {own own' : ℕ → ℕ} {top k top' : ℕ} → Divides g slicing q kind state list own top k own' top' → Divides g slicing q kind state' list' own top k own' top'
   divides-agree d = record { ready = d .ready; made = d .made; swept = d .swept; choices = choices-agree (d .choices); end = d .end; gone = d .gone }
 
--- choice i: from some part, which is not empty and a union of whole components, the pivot that the kind gives for the state after i draws
-abbrev pub ChoiceAt : Graph → (kind state : ℕ) → List ℕ → ℕ → Type 0
-ChoiceAt g kind state list i = (own : ℕ → ℕ) × (q : ℕ) × (p : ℕ) × Choice g own q kind (draws i state) list p
+-- the choices before choice i from a part, and choice i
+abbrev ChosenAt : Graph → (slicing q kind state : ℕ) → List ℕ → (ℕ → ℕ) → (top i : ℕ) → Type 0
+ChosenAt g slicing q kind state list ready top i =
+    (own : ℕ → ℕ) × (t : ℕ) × (p : ℕ) × Choices g slicing q kind state list ready top i own t × Choice g own q kind (draws i state) list p
 
-choices-choice : {g : Graph} {kind : ℕ} {list : List ℕ} (state j : ℕ) {slicing q top k top' : ℕ} {own own' : ℕ → ℕ}
-    → Choices g slicing q kind (draws j state) list own top k own' top' → (i : ℕ) → i < k → ChoiceAt g kind state list (j + i)
-choices-choice state j unchosen i l = absurd (not-suc-le-zero l)
-choices-choice {g} {kind} {list} state j {q = q} (choice {k} {own = own} p c x y) i l = elim (decLt i k) as (λ _. ChoiceAt g kind state list (j + i)) [
-  | yes a ↦ choices-choice state j c i a
-  | no a ↦
-      let e : i ≡ k = omega arith in
-      (own, q, p, subst (λ (z : ℕ). Choice g own q kind z list p) (draws-more k j state ∙ ap (λ (z : ℕ). draws (j + z) state) (sym e)) x)
-]
+choices-choice : {g : Graph} {slicing q kind state : ℕ} {list : List ℕ} {ready own : ℕ → ℕ} {top k t : ℕ} → Choices g slicing q kind state list ready top k own t
+    → (i : ℕ) → i < k → ChosenAt g slicing q kind state list ready top i
+choices-choice unchosen i l = absurd (not-suc-le-zero l)
+choices-choice {g} {slicing} {q} {kind} {state} {list} {ready} {top = top} (choice {k} {t} {own = own} p c x y) i l =
+    elim (decLt i k) as (λ _. ChosenAt g slicing q kind state list ready top i) [
+      | yes a ↦ choices-choice c i a
+      | no a ↦ let e : k ≡ i = omega arith in subst (ChosenAt g slicing q kind state list ready top) e (own, t, p, c, x)
+    ]
 
 module _ {g : Graph} {method order kind state : ℕ} {list : List ℕ} where
   -- only the parts below c count
@@ -83,12 +83,34 @@ module _ {g : Graph} {method order kind state : ℕ} {list : List ℕ} where
   course-same {slicing} {top} {k = k} {own} {part' = part'} q e x = subst (λ (z : ℕ). Course g method order kind state list slicing own top z part' k) (sym q) (parts-same e x)
 
   -- every choice of the course
-  pub course-choice : {slicing top c k : ℕ} {own part : ℕ → ℕ} → Course g method order kind state list slicing own top c part k → (i : ℕ) → i < k → ChoiceAt g kind state list i
+  pub course-choice : {slicing top c k : ℕ} {own part : ℕ → ℕ} → Course g method order kind state list slicing own top c part k → (i : ℕ) → i < k → ChoiceAt g method order kind state list i
   course-choice (whole f h) i l = absurd (not-suc-le-zero l)
-  course-choice (onward {k = k} {j = j} c p d s) i l = elim (decLt i k) as (λ _. ChoiceAt g kind state list i) [
-    | yes a ↦ course-choice c i a
-    | no a ↦ let e : k + (i - k) ≡ i = omega arith in subst (ChoiceAt g kind state list) e (choices-choice state k (d .choices) (i - k) (omega arith))
+  course-choice (onward {slicing} {top} {c} {k} {own = own} {part} x p d s) i l = elim (decLt i k) as (λ _. ChoiceAt g method order kind state list i) [
+    | yes a ↦ course-choice x i a
+    | no a ↦ last (choices-choice (d .choices) (i - k) (omega arith)) (omega arith)
   ]
+    where
+      last : ChosenAt g slicing (part (next order c)) kind (draws k state) list (d .ready) top (i - k) → k + (i - k) ≡ i → ChoiceAt g method order kind state list i
+      last (o, t, v, f, h) e =
+          record {
+            slicing = slicing;
+            top = top;
+            c = c;
+            k = k;
+            own₀ = own;
+            part = part;
+            ready = d .ready;
+            j = i - k;
+            own = o;
+            t = t;
+            vertex = v;
+            course = x;
+            some = p;
+            made = d .made;
+            choices = f;
+            sum = e;
+            chosen = subst (λ (z : ℕ). Choice g o (part (next order c)) kind z list v) (draws-more (i - k) k state ∙ ap (λ (z : ℕ). draws z state) e) h;
+          }
 
 -- kind 0 reads no list of vertices
 course-unlisted : {g : Graph} {method order state : ℕ} {list list' : List ℕ} {slicing top c k : ℕ} {own part : ℕ → ℕ}

@@ -51,6 +51,7 @@ pub record Goes (g : Graph) (r v : ℕ) (own marks own' marks' : ℕ → ℕ) : 
 
 -- No seed can go: everything that reaches a seed within what remains is the slice s, and its successors outside it are the next seeds.
 pub record Slice (g : Graph) (r s : ℕ) (own marks own' marks' : ℕ → ℕ) : Type 0 where
+  pub other : s ≡ r → ⊥
   pub stuck : (v : ℕ) → Seed g r own marks v → Entered g (In g own r) v
   pub each : (v : ℕ) → v < g .n → (Bwd g (In g own r) (Seed g r own marks) v × (own' v ≡ s)) ⊎ ((Bwd g (In g own r) (Seed g r own marks) v → ⊥) × (own' v ≡ own v))
   pub seeds : (v : ℕ) → In g own' r v → (marks' v ≡ 0 → ⊥) ↔ Entered g (Bwd g (In g own r) (Seed g r own marks)) v
@@ -63,6 +64,7 @@ pub data Slicing (g : Graph) (r : ℕ) (own₀ marks₀ : ℕ → ℕ) (s₀ : �
 
 -- F, what the pivot p reaches in the part q, is used up, beginning with p as the only seed; V without F goes on as q.
 pub record Obf (g : Graph) (p q top : ℕ) (own own' : ℕ → ℕ) (top' : ℕ) : Type 0 where
+  -- the colour of what remains, the colours when F has it, and the marks of the seeds then and at the end
   pub rest : ℕ
   pub first : ℕ → ℕ
   pub marks : ℕ → ℕ
@@ -127,6 +129,27 @@ pub data Course (g : Graph) (method order kind state : ℕ) (list : List ℕ) : 
   onward : {slicing top c k top' c' j : ℕ} {own part own' part' : ℕ → ℕ} → Course g method order kind state list slicing own top c part k → 0 < c
       → Divides g slicing (part (next order c)) kind (draws k state) list own top j own' top'
       → ListAfter (g .n) order top c part own' c' part' → Course g method order kind state list 0 own' top' c' part' (k + j)
+
+-- Choice i of a course: the vertex is chosen from what is left of the part that is next, after k choices from the parts before it and j from this one.
+pub record ChoiceAt (g : Graph) (method order kind state : ℕ) (list : List ℕ) (i : ℕ) : Type 0 where
+  -- what stood when the part was taken, when it was ready for its pivots, and before the choice
+  pub slicing : ℕ
+  pub top : ℕ
+  pub c : ℕ
+  pub k : ℕ
+  pub own₀ : ℕ → ℕ
+  pub part : ℕ → ℕ
+  pub ready : ℕ → ℕ
+  pub j : ℕ
+  pub own : ℕ → ℕ
+  pub t : ℕ
+  pub vertex : ℕ
+  pub course : Course g method order kind state list slicing own₀ top c part k
+  pub some : 0 < c
+  pub made : ((slicing ≡ 1 → ⊥) × Trims g (part (next order c)) own₀ ready) ⊎ ((slicing ≡ 1) × Alike (g .n) own₀ ready)
+  pub choices : Choices g slicing (part (next order c)) kind (draws k state) list ready top j own t
+  pub sum : k + j ≡ i
+  pub chosen : Choice g own (part (next order c)) kind (draws i state) list vertex
 
 -- The course of a call that made k choices: nothing waits any more, and the colours are the labels.
 pub record TakenApart (g : Graph) (method order kind state : ℕ) (list label : List ℕ) (k : ℕ) : Type 0 where

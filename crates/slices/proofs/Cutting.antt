@@ -166,6 +166,7 @@ module _ {g : Graph} {b r s l e : ℕ} {w : List ℕ} (a : CutAsk g b r s l e w)
 
       slice₂ : Slice g r s (col b w) (flag (g .n) b w) (col b w₂) (flag (g .n) b w₂)
       slice₂ = record {
+        other = λ e. omega (arith, a .under, e);
         stuck = a .stuck;
         each = λ v h. ⊎-elim (λ t. inl (t .0, col₂ v h ∙ t .1)) (λ t. inr (t .0, col₂ v h ∙ t .1)) (one v h);
         seeds = next₂;

@@ -18,6 +18,7 @@ module _ {g : Graph} {r : ℕ} where
 
   slice-alike : {s : ℕ} {own marks own₁ marks₁ own₂ marks₂ : ℕ → ℕ} → Slice g r s own marks own₁ marks₁ → Alike (g .n) own₁ own₂ → Alike (g .n) marks₁ marks₂ → Slice g r s own marks own₂ marks₂
   slice-alike t o m = record {
+    other = t .other;
     stuck = t .stuck;
     each = λ v h. ⊎-elim (λ x. inl (x .0, o v h ∙ x .1)) (λ x. inr (x .0, o v h ∙ x .1)) (t .each v h);
     seeds = λ u (h, c). let (x, y) = t .seeds u (h, sym (o u h) ∙ c) in (λ z. x (λ q. z (m u h ∙ q)), λ z q. y z (sym (m u h) ∙ q));
