@@ -20,7 +20,7 @@ fn find(n: usize, w: &[u32], eb: usize, b: usize, q: u32, i0: usize, t: usize) -
     i
 }
 
-// v's cursor, at cb + v, goes to the first edge from the place at sb + v on that leads to the colour q. 0 if there is none, else 1.
+// v's cursor, at cb + v, goes to the first edge from the place at sb + v on that leads to the colour q. 0 if there is none, else another number.
 fn look(
     n: usize,
     w: &mut [u32],
@@ -43,7 +43,7 @@ fn look(
     0
 }
 
-// v's cursor, at cb + v, goes on to the first edge that leads to the colour q. 0 if there is none, else 1.
+// v's cursor, at cb + v, goes on to the first edge that leads to the colour q. 0 if there is none, else another number.
 pub fn advance(n: usize, w: &mut [u32], ix: usize, cb: usize, b: usize, v: usize, q: u32) -> usize
     requires { ⌜ AdvanceAsk n ix cb b v (now w) ⌝ }
     ensures { λ r. ⌜ Advanced n ix cb b v q (now (w .entry)) (now (w .exit)) r ⌝ }
@@ -51,7 +51,7 @@ pub fn advance(n: usize, w: &mut [u32], ix: usize, cb: usize, b: usize, v: usize
     look(n, w, ix, cb, cb, b, v, q)
 }
 
-// 0 if no edge of the part q leaves v, or none enters it; else 1. The looks begin at the places at ob + v and ib + v.
+// 0 if no edge of the part q leaves v, or none enters it; else another number. The looks begin at the places at ob + v and ib + v.
 pub fn tied(
     n: usize,
     m: usize,

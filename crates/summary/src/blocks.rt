@@ -95,7 +95,7 @@ fn block(label: &[u32], low: usize, k: usize) -> Totals
 // How many of the labels below n the block that begins at low has.
 fn width(low: usize, n: usize) -> usize
     requires { ⌜ low < n ⌝ }
-    ensures { λ r. ⌜ (low + r ≤ n) × (r ≤ 4096) × (0 < r) ⌝ }
+    ensures { λ r. ⌜ (low + r ≤ n) × (r ≤ 4096) × (0 < r) × (r < 4096 → low + r ≡ n) ⌝ }
 {
     let left = n - low;
     if left < BLOCK {
