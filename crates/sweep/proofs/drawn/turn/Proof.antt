@@ -1,6 +1,6 @@
 use native.Mathlib.Omega.{arith}
 use borrow.Author.Needs.{needs}
-use Rattle.sweep.proofs.Drawing.{marks-within, draw-pick, draw-done}
+use Rattle.sweep.proofs.Drawing.{marks-few, marks-within, draw-pick, draw-done}
 use Rattle.sweep.proofs.drawn.turn.Statement.{statement}
 use Rattle.sweep.proofs.drawn.turn.Tie as tie
 
@@ -11,7 +11,9 @@ abbrev selected : tie.After-take → tie.After-select
 selected c = c .before .before .before
 
 rem-select : tie.Need-rem-select
-rem-select c = omega (arith, (begins (c .before)) .pre .1 .some)
+rem-select c =
+    let a = (begins (c .before)) .pre .1 in
+    omega (arith, a .some, marks-few (a .marks))
 
 select-requires : tie.Need-select-requires
 select-requires c κs =
