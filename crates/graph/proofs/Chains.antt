@@ -4,9 +4,8 @@ use native.Mathlib.Omega.{arith}
 use native.Mathlib.Nat.{zero-add, suc-add}
 use mathlib.Core.Path.{_≡_, refl, ap}
 use mathlib.Core.List.{List}
-use mathlib.Core.Bool.{true}
-use lib.ListN.{length}
-use Rattle.graph.specs.Graph.{Graph, Part, Valid, Edge, Chain, stay, step, Reach, Same, IsLabel, graph, rev}
+use lib.ListN.{length, getD}
+use Rattle.graph.specs.Graph.{Graph, Part, Valid, Edge, Chain, stay, step, Reach, Same, IsLabel, inMask, table, rev}
 
 module _ {g : Graph} {P : Part} where
   pub chain-first : {h u v : ℕ} → Chain g P h u v → P u
@@ -121,5 +120,5 @@ pub same-low : {g : Graph} {u v : ℕ} → Valid g → Same g u v → u < g .n �
 same-low ok s l = chain-to-low ok (s .there .1) l
 
 -- the columns changed places: the same as the table turned
-pub graph-turned : (n : ℕ) (s t : List ℕ) → length t ≡ length s → graph n t s ≡ rev (graph n s t)
-graph-turned n s t e = ap {B = Graph} (λ (m : ℕ). record { n = n; m = m; src = t; tgt = s; counted = λ e. true }) e
+pub table-turned : (n : ℕ) (s t kinds : List ℕ) (mask : ℕ) → length t ≡ length s → table n t s kinds mask ≡ rev (table n s t kinds mask)
+table-turned n s t kinds mask e = ap {B = Graph} (λ (m : ℕ). record { n = n; m = m; src = t; tgt = s; counted = λ e. inMask mask (getD kinds e 0) }) e

@@ -7,8 +7,8 @@ use mathlib.Core.Logic.{_⊎_, inl, inr, ⊎-elim}
 use mathlib.Core.List.{List}
 use Rattle.graph.specs.Graph.{Graph}
 use Rattle.graph.specs.Apart.{other, ListAfter}
-use Rattle.graph.specs.Numbers.{table}
-use Rattle.graph.proofs.Tests.{getD-table}
+use Rattle.graph.specs.Numbers.{each}
+use Rattle.graph.proofs.Tests.{getD-each}
 use Rattle.memory.specs.Decomposer.{col, ord, own, nxt, head, orderAt}
 use Rattle.split.specs.Chain.{Follows, First}
 use Rattle.parts.proofs.Sharing.{pigeons}
@@ -18,9 +18,9 @@ use Rattle.machine.specs.Waits.{Waits}
 module _ {g : Graph} {b top k : ℕ} {h : ℕ → ℕ} {w : List ℕ} (z : Waits g b top k h w) where
   -- each part has its own first place
   pub waits-few : k ≤ g .n
-  waits-few = pigeons (table k h) (g .n) k
-      (λ i l. rw (getD-table k h 0 i l) (z .first i l .low))
-      (λ i j l m e. omega (arith, z .one i j (omega arith) m (ap (own (g .n) b w) (sym (getD-table k h 0 i (omega arith)) ∙ e ∙ getD-table k h 0 j m))))
+  waits-few = pigeons (each k h) (g .n) k
+      (λ i l. rw (getD-each k h 0 i l) (z .first i l .low))
+      (λ i j l m e. omega (arith, z .one i j (omega arith) m (ap (own (g .n) b w) (sym (getD-each k h 0 i (omega arith)) ∙ e ∙ getD-each k h 0 j m))))
 
   pub waits-same : (h' : ℕ → ℕ) → ((i : ℕ) → i < k → h' i ≡ h i) → Waits g b top k h' w
   waits-same h' e =
@@ -186,7 +186,7 @@ module _ {g : Graph} {b top k : ℕ} {h : ℕ → ℕ} {w : List ℕ} (z : Waits
         record {
           front = λ i a. (omega (arith, a, sum), ap (own (g .n) b w') (front i a) ∙ rest-same i a ∙ ap (λ (x : ℕ). own (g .n) b w (h x)) (s i));
           new = λ i a c. new i (which i c) a;
-          all = each;
+          all = found;
           once = λ i j a c e. one i j (which i a) (which j c) e;
         }
       where
@@ -196,8 +196,8 @@ module _ {g : Graph} {b top k : ℕ} {h : ℕ → ℕ} {w : List ℕ} (z : Waits
             let (f, q) = v .heads j a in
             rw (new-is i j a e) (q, (ord (g .n) b w' (head (g .n) b w' j), v .stage .placed .low (head (g .n) b w' j) (f .low), refl))
 
-        each : (u : ℕ) → u < g .n → top ≤ col b w' u → (i : ℕ) × (k ≤ i + 1) × (i < k') × (own (g .n) b w' (h' i) ≡ col b w' u)
-        each u a q =
+        found : (u : ℕ) → u < g .n → top ≤ col b w' u → (i : ℕ) × (k ≤ i + 1) × (i < k') × (own (g .n) b w' (h' i) ≡ col b w' u)
+        found u a q =
             let (x, y, e) = v .stage .placed .all u a in
             let (j, c, f) = v .all x y (rw e q) in
             (k - 1 + j, omega arith, omega (arith, sum), ap (own (g .n) b w') (back j c) ∙ f ∙ ap (col b w') e)
