@@ -13,7 +13,7 @@ use Rattle.graph.specs.Sets.{bit, members}
 use Rattle.graph.proofs.Chains.{reach-wider, valid-rev}
 use Rattle.graph.proofs.Search.{reached-iff}
 use Rattle.sets.proofs.Sizes.{members-in, members-out}
-use Rattle.reach.specs.Search.{Call, tableOf, Finished, Promise}
+use Rattle.reach.specs.Search.{Call, collection, tableOf, Finished, Promise}
 use Rattle.reach.specs.declared.Answer.the-variants.{Done}
 use Rattle.reach.proofs.Outcome.{table-ask}
 
@@ -22,7 +22,7 @@ fwd-wider : {g : Graph} {P Q X Y : Part} → ((v : ℕ) → P v → Q v) → ((v
 fwd-wider {g} {P} {Q} f h v (x, i, r) = (x, h x i, reach-wider {g = g} {P = P} {Q = Q} f r)
 
 module _ (c : Call) (r w ws : List ℕ) (k e : ℕ) where
-  computed : (b : Bool) → Valid (tableOf c b) → Finished c b r w ws k e → (v : ℕ) → v < tableOf c b .n
+  computed : (b : Bool) → Valid (tableOf c b) → Finished (collection c) c b r w ws k e → (v : ℕ) → v < tableOf c b .n
       → (bit r v ≡ 1) ↔ T (mark (reached (tableOf c b) (members (c .n) (c .permitted)) (members (c .n) (c .starts))) v)
   computed b ok f v l =
       let it = reached-iff {g = tableOf c b} ok (members (c .n) (c .permitted)) (members (c .n) (c .starts)) v l in (

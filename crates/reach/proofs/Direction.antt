@@ -2,30 +2,37 @@
 use native.Mathlib.Omega.{arith}
 use Prim.Native.Nat.{ℕ, _+_, _*_}
 use mathlib.Core.Path.{_≡_, sym, subst, _∙_}
+use mathlib.Core.Bool.{Bool}
 use mathlib.Core.List.{List}
-use Rattle.graph.specs.Graph.{Graph, graph, rev, edges}
+use Rattle.graph.specs.Graph.{Graph, table, rev, edges}
 use Rattle.memory.specs.Memory.{Framed}
-use Rattle.graph.proofs.Chains.{valid-rev, graph-turned}
+use Rattle.graph.proofs.Chains.{valid-rev, table-turned}
 use Rattle.index.specs.Build.{OneAsk, One}
 use Rattle.index.proofs.Asks.{valid-column}
 use Rattle.index.proofs.Counts.{start-all}
-use Rattle.reach.specs.Steps.{ChooseAsk, TableAsk, RunAsk}
+use Rattle.reach.specs.Steps.{ChooseAsk, TableAsk, NeighboursAsk, RunAsk}
 
 pub turned-ask : {g : Graph} {w : List ℕ} → TableAsk g w → TableAsk (rev g) w
 turned-ask a = record { valid = valid-rev (a .valid); small = a .small; few = a .few; room = a .room }
 
-pub one-ask : {g : Graph} {w : List ℕ} → TableAsk g w → OneAsk g w
-one-ask a = record { column = valid-column (a .valid) (a .small) (a .few); even = a .valid .same; room = omega (arith, a .room) }
+pub one-ask : {g : Graph} {kinds w : List ℕ} → NeighboursAsk g kinds w → OneAsk g kinds w
+one-ask a =
+    let t = a .table in
+    record { kinded = a .kinded; column = valid-column (t .valid) (t .small) (t .few); even = t .valid .same; room = omega (arith, t .room) }
+
+-- which edges count does not matter to what an index asks
+pub any-ask : {n m : ℕ} {s t kinds w : List ℕ} {c d : ℕ → Bool} → OneAsk (record { n = n; m = m; src = s; tgt = t; counted = c }) kinds w → OneAsk (record { n = n; m = m; src = s; tgt = t; counted = d }) kinds w
+any-ask a = record { kinded = a .kinded; column = a .column; even = a .even; room = a .room }
 
 -- backward, the columns change places
-module _ {n : ℕ} {s t w : List ℕ} (a : TableAsk (graph n s t) w) where
-  same : graph n t s ≡ rev (graph n s t)
-  same = graph-turned n s t (a .valid .same)
+module _ (mask : ℕ) {n : ℕ} {s t kinds w : List ℕ} (a : NeighboursAsk (table n s t kinds mask) kinds w) where
+  same : table n t s kinds mask ≡ rev (table n s t kinds mask)
+  same = table-turned n s t kinds mask (a .table .valid .same)
 
-  pub back-ask : OneAsk (graph n t s) w
-  back-ask = subst (λ (g : Graph). OneAsk g w) (sym same) (one-ask (turned-ask a))
+  pub back-ask : OneAsk (table n t s kinds mask) kinds w
+  back-ask = subst (λ (g : Graph). OneAsk g kinds w) (sym same) (one-ask (record { table = turned-ask (a .table); kinded = a .kinded }))
 
-  pub back-one : {w' : List ℕ} → One (graph n t s) w w' → One (rev (graph n s t)) w w'
+  pub back-one : {w' : List ℕ} → One (table n t s kinds mask) w w' → One (rev (table n s t kinds mask)) w w'
   back-one {w'} o = subst (λ (g : Graph). One g w w') same o
 
 -- the index is made, and the sets are there

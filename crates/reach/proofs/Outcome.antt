@@ -8,7 +8,6 @@ use mathlib.Core.List.{List}
 use lib.ListN.{length}
 use Rattle.graph.specs.Limits.{wordsOf, numbersNeeded, Enough}
 use Rattle.graph.specs.Numbers.{tally, many}
-use Rattle.graph.specs.Graph.{graph}
 use Rattle.graph.specs.Arrows.{SomeOf, EveryOf, arrows}
 use Rattle.graph.specs.Sets.{bit, members}
 use Rattle.memory.specs.Memory.{Zeroed, Framed, ClearAsk, Cleared}
@@ -17,13 +16,13 @@ use Rattle.graph.proofs.Refusals.{or-none, or-left-none, given-none, not-lackin
 use Rattle.index.specs.Build.{One}
 use Rattle.sets.specs.Sizes.{Words}
 use Rattle.sets.proofs.Sizes.{sized, size-below, size-many}
-use Rattle.reach.specs.Search.{Call, searchRefusal, tableOf, Finished}
-use Rattle.reach.specs.Steps.{ChooseAsk, TableAsk, RunAsk, Found}
+use Rattle.reach.specs.Search.{Call, refusalOn, searchRefusal, collection, tableOf, Finished}
+use Rattle.reach.specs.Steps.{ChooseAsk, TableAsk, NeighboursAsk, RunAsk, Found}
 use Rattle.reach.proofs.Direction.{turned-ask, laid-ask, laid-framed}
 
 -- what a call has that is not refused
 pub record Accepted (c : Call) : Type 0 where
-  pub table : Passed (c .n) (c .sources) (c .targets)
+  pub table : Passed (c .n) (c .sources) (c .targets) (c .kinds)
   pub starts : length (c .starts) ≡ wordsOf (c .n)
   pub permitted : length (c .permitted) ≡ wordsOf (c .n)
   pub reached : length (c .reached) ≡ wordsOf (c .n)
@@ -31,27 +30,30 @@ pub record Accepted (c : Call) : Type 0 where
 
 module _ (c : Call) (e : searchRefusal c ≡ 0) where
   pub accepted : Accepted c
-  unfolding searchRefusal
+  unfolding refusalOn
   accepted =
       let (e1, r1) = or-none _ _ e in
       let (e2, e3) = or-none _ _ r1 in
       let (s1, r) = or-left-none _ _ (given-none 5 _ (suc-ne-zero 4) e2) in
       let (s, p) = or-left-none _ _ s1 in
       record {
-        table = table-passed (c .n) (c .sources) (c .targets) e1;
+        table = table-passed (c .n) (c .sources) (c .targets) (c .kinds) e1;
         starts = sized (c .n) (c .starts) s;
         permitted = sized (c .n) (c .permitted) p;
         reached = sized (c .n) (c .reached) r;
         memory = not-lacking (c .n) (length (c .sources)) (length (c .numbers)) (length (c .words)) (given-none 6 _ (suc-ne-zero 5) e3);
       }
 
-  pub table-ask : TableAsk (graph (c .n) (c .sources) (c .targets)) (c .numbers)
+  pub table-ask : TableAsk (collection c) (c .numbers)
   table-ask = let a = accepted in record {
-    valid = passed-valid (c .n) (c .sources) (c .targets) (a .table);
+    valid = passed-valid (c .n) (c .sources) (c .targets) (c .kinds) (c .mask) (a .table);
     small = a .table .small;
     few = a .table .few;
     room = omega (arith, a .memory .numbers);
   }
+
+  pub neighbours-ask : NeighboursAsk (collection c) (c .kinds) (c .numbers)
+  neighbours-ask = record { table = table-ask; kinded = accepted .table .kinded }
 
   sets-ask : ChooseAsk (c .n) (c .starts) (c .permitted) (c .reached)
   sets-ask = let a = accepted in record { starts-long = a .starts; permitted-long = a .permitted; set-long = a .reached }
@@ -86,7 +88,7 @@ module _ (c : Call) (e : searchRefusal c ≡ 0) where
 
   -- the index was made, the search found the set, the set was measured, and the working memory cleared
   pub finished : (backward : Bool) {w₁ w₂ r w ws : List ℕ} {k seen : ℕ} → One (tableOf c backward) (c .numbers) w₁ → Found (tableOf c backward) (c .starts) (c .permitted) w₁ (c .reached) w₂ r seen → Words r → k ≡ tally (bit r) (length r * 64)
-      → Cleared (c .n) (length (c .sources)) w₂ w (c .words) ws → Finished c backward r w ws k seen
+      → Cleared (c .n) (length (c .sources)) w₂ w (c .words) ws → Finished (collection c) c backward r w ws k seen
   finished true {r = r} o f t q x = record {
     long = f .long;
     fit = t;

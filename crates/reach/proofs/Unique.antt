@@ -6,17 +6,18 @@ use mathlib.Core.Path.{_≡_, sym, ap, ap₂, _∙_}
 use mathlib.Core.Bool.{Bool}
 use mathlib.Core.List.{List}
 use Rattle.graph.specs.Numbers.{many}
+use Rattle.graph.specs.Graph.{Graph, turned}
 use Rattle.graph.specs.Sets.{bit, members}
 use Rattle.graph.specs.Search.{looked}
 use Rattle.memory.proofs.Memory.{zeroed-one}
 use Rattle.sets.proofs.Store.{bit-lt}
 use Rattle.sets.proofs.Unique.{set-one}
-use Rattle.reach.specs.Search.{Call, tableOf, Finished, Promise}
+use Rattle.reach.specs.Search.{Call, Finished, PromiseOn}
 use Rattle.reach.specs.declared.Answer.{Answer}
 use Rattle.reach.specs.declared.Answer.the-variants.{Done, Refused}
 
-bits-one : {c : Call} {b : Bool} {r w ws r' w' ws' : List ℕ} {k e k' e' : ℕ} → Finished c b r w ws k e → Finished c b r' w' ws' k' e' → (v : ℕ) → bit r v ≡ bit r' v
-bits-one {c} {b} {r} {w} {ws} {r'} p q v = elim (ℕ-discrete (bit r v) 1) as (λ _. bit r v ≡ bit r' v) [
+bits-one : {g : Graph} {c : Call} {b : Bool} {r w ws r' w' ws' : List ℕ} {k e k' e' : ℕ} → Finished g c b r w ws k e → Finished g c b r' w' ws' k' e' → (v : ℕ) → bit r v ≡ bit r' v
+bits-one {g} {c} {b} {r} {w} {ws} {r'} p q v = elim (ℕ-discrete (bit r v) 1) as (λ _. bit r v ≡ bit r' v) [
   | yes h ↦ h ∙ sym (q .complete v (p .sound v h))
   | no h ↦ elim (ℕ-discrete (bit r' v) 1) as (λ _. bit r v ≡ bit r' v) [
     | yes t ↦ absurd (h (p .complete v (q .sound v t)))
@@ -24,18 +25,18 @@ bits-one {c} {b} {r} {w} {ws} {r'} p q v = elim (ℕ-discrete (bit r v) 1) as (�
   ]
 ]
 
-gives-one : {c : Call} {b : Bool} {r w ws r' w' ws' : List ℕ} {k e k' e' : ℕ} → Finished c b r w ws k e → Finished c b r' w' ws' k' e'
+gives-one : {g : Graph} {c : Call} {b : Bool} {r w ws r' w' ws' : List ℕ} {k e k' e' : ℕ} → Finished g c b r w ws k e → Finished g c b r' w' ws' k' e'
     → (k ≡ k') × (e ≡ e') × (r ≡ r') × (w ≡ w') × (ws ≡ ws')
-gives-one {c} {b} {r} {w} {ws} {r'} p q =
+gives-one {g} {c} {b} {r} {w} {ws} {r'} p q =
     let s : r ≡ r' = set-one r r' (p .fit) (q .fit) (p .long ∙ sym (q .long)) (bits-one p q) in (
       p .vertices ∙ ap (λ (x : List ℕ). many (members (c .n) x) (c .n)) s ∙ sym (q .vertices),
-      p .edges ∙ ap (λ (x : List ℕ). looked (tableOf c b) (members (c .n) x)) s ∙ sym (q .edges),
+      p .edges ∙ ap (λ (x : List ℕ). looked (turned b g) (members (c .n) x)) s ∙ sym (q .edges),
       s,
       zeroed-one (p .numbers) (q .numbers),
       zeroed-one (p .words) (q .words),
     )
 
-pub search-one : (c : Call) (b : Bool) (r w ws r' w' ws' : List ℕ) (a a' : Answer) → Promise c b r w ws a → Promise c b r' w' ws' a'
+pub search-one : {k : ℕ} {g : Graph} (c : Call) (b : Bool) (r w ws r' w' ws' : List ℕ) (a a' : Answer) → PromiseOn k g c b r w ws a → PromiseOn k g c b r' w' ws' a'
     → (a ≡ a') × (r ≡ r') × (w ≡ w') × (ws ≡ ws')
 search-one c b r w ws r' w' ws' (Done k e) (Done k' e') p q =
     let (x, y, s, t, u) = gives-one (p .gives) (q .gives) in (ap₂ Done x y, s, t, u)

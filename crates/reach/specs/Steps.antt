@@ -5,7 +5,7 @@ use mathlib.Core.Logic.{_⊎_}
 use mathlib.Core.List.{List}
 use lib.ListN.{length, getD}
 use Rattle.graph.specs.Limits.{wordsOf, mostVertices, mostEdges}
-use Rattle.graph.specs.Graph.{Graph, Valid, edges}
+use Rattle.graph.specs.Graph.{Graph, Kinds, Valid, edges}
 use Rattle.graph.specs.Parts.{Fwd}
 use Rattle.graph.specs.Search.{looked}
 use Rattle.graph.specs.Sets.{bit, Members, members}
@@ -72,13 +72,18 @@ pub record TableAsk (g : Graph) (w : List ℕ) : Type 0 where
   pub few : edges g ≤ mostEdges
   pub room : 3 * g .n + 1 + edges g ≤ length w
 
--- the same, and w's front holds the neighbours of its vertices
+-- the same, and the edges have kinds
+pub record NeighboursAsk (g : Graph) (kinds w : List ℕ) : Type 0 where
+  pub table : TableAsk g w
+  pub kinded : Kinds (edges g) kinds
+
+-- the table is sound, and w's front holds the neighbours of its vertices
 pub record RunAsk (g : Graph) (starts permitted w r : List ℕ) : Type 0 where
   pub table : TableAsk g w
   pub index : Held g 0 w
   pub sets : ChooseAsk (g .n) starts permitted r
 
--- The set r' is what the starts reach within the permitted set, and `seen` the number of edges whose source is in it.
+-- The set r' is what the starts reach within the permitted set, and `seen` the number of counted edges whose source is in it.
 pub record Found (g : Graph) (starts permitted w r w' r' : List ℕ) (seen : ℕ) : Type 0 where
   pub long : length r' ≡ length r
   pub sound : (v : ℕ) → bit r' v ≡ 1 → Fwd g (Members (g .n) permitted) (Members (g .n) starts) v

@@ -1,4 +1,5 @@
-// The public search: which permitted vertices are reached from permitted starts by chains that stay permitted.
+// The public search: which permitted vertices are reached from permitted starts by chains of counted edges that stay permitted.
+ghost use Prim.Native.Nat.{ℕ};
 ghost use mathlib.Core.Path.{_≡_};
 ghost use Rattle.reach.specs.Search.{searchRefusal, Promise};
 
@@ -7,26 +8,27 @@ mod steps;
 use graph::limits;
 use graph::table;
 
-// What a search answers: how many vertices it reached and how many edges it looked at, or the number by which it refuses.
+// What a search answers: how many vertices it reached and how many counted edges it looked at, or the number by which it refuses.
 pub enum Answer {
     Done { vertices: usize, edges: usize },
     Refused(u32),
 }
 
-// The first of 1 to 6 that applies, or 0.
+// The first of 1, 2, 21, 3, 4, 22, 5, 6 that applies, else 0, whatever the mask.
 fn refusal(
     n: usize,
     sources: &[u32],
     targets: &[u32],
+    kinds: &[u8],
     starts: &[u64],
     permitted: &[u64],
     reached: &[u64],
     numbers: &[u32],
     words: &[u64],
 ) -> u32
-    ensures { λ k. ⌜ k ≡ searchRefusal (record { n = n; sources = now (sources .entry); targets = now (targets .entry); starts = now (starts .entry); permitted = now (permitted .entry); reached = now (reached .entry); numbers = now (numbers .entry); words = now (words .entry) }) ⌝ }
+    ensures { λ k. ⌜ ((mask : ℕ) → k ≡ searchRefusal (record { n = n; sources = now (sources .entry); targets = now (targets .entry); kinds = now (kinds .entry); mask = mask; starts = now (starts .entry); permitted = now (permitted .entry); reached = now (reached .entry); numbers = now (numbers .entry); words = now (words .entry) })) ⌝ }
 {
-    let fault = table::check(n, sources, targets);
+    let fault = table::check(n, sources, targets, kinds);
     if fault != 0 {
         return fault;
     }
@@ -46,12 +48,13 @@ fn refusal(
     0
 }
 
-// The set of permitted vertices reached from permitted starts by chains that stay permitted, its size,
-// and the number of edges whose source (backward: target) was reached.
+// The set of vertices reached, its size, and the number of counted edges whose source (backward: target) is in it.
 pub fn search(
     n: usize,
     sources: &[u32],
     targets: &[u32],
+    kinds: &[u8],
+    mask: u8,
     starts: &[u64],
     permitted: &[u64],
     backward: bool,
@@ -59,12 +62,13 @@ pub fn search(
     numbers: &mut [u32],
     words: &mut [u64],
 ) -> Answer
-    ensures { λ a. ⌜ Promise (record { n = n; sources = now (sources .entry); targets = now (targets .entry); starts = now (starts .entry); permitted = now (permitted .entry); reached = now (reached .entry); numbers = now (numbers .entry); words = now (words .entry) }) backward (now (reached .exit)) (now (numbers .exit)) (now (words .exit)) a ⌝ }
+    ensures { λ a. ⌜ Promise (record { n = n; sources = now (sources .entry); targets = now (targets .entry); kinds = now (kinds .entry); mask = mask; starts = now (starts .entry); permitted = now (permitted .entry); reached = now (reached .entry); numbers = now (numbers .entry); words = now (words .entry) }) backward (now (reached .exit)) (now (numbers .exit)) (now (words .exit)) a ⌝ }
 {
     let fault = refusal(
         n,
         sources,
         targets,
+        kinds,
         starts,
         permitted,
         reached,
@@ -74,7 +78,7 @@ pub fn search(
     if fault != 0 {
         return Answer::Refused(fault);
     }
-    steps::neighbours(n, sources, targets, backward, numbers);
+    steps::neighbours(n, sources, targets, kinds, mask, backward, numbers);
     let edges = steps::run(n, sources.len(), starts, permitted, numbers, reached);
     let vertices = sets::size(reached);
     memory::clear(n, sources.len(), numbers, words);

@@ -1,10 +1,10 @@
 // A search in one direction: sets become colours, the search core paints them, and what was painted becomes a set.
-ghost use Rattle.graph.specs.Graph.{graph, turned};
+ghost use Rattle.graph.specs.Graph.{table, turned};
 ghost use Rattle.graph.specs.Arrows.{SomeOf, EveryOf};
 ghost use Rattle.graph.specs.Sets.{bit};
 ghost use Rattle.index.specs.Build.{One};
 ghost use Rattle.paint.specs.Colours.{Coloured};
-ghost use Rattle.reach.specs.Steps.{ColourAsk, ChooseAsk, Chosen, BeginOneAsk, BegunOne, BeginAsk, BegunBelow, GatherAsk, Gathered, TableAsk, RunAsk, Found};
+ghost use Rattle.reach.specs.Steps.{ColourAsk, ChooseAsk, Chosen, BeginOneAsk, BegunOne, BeginAsk, BegunBelow, GatherAsk, Gathered, NeighboursAsk, RunAsk, Found};
 use index::build;
 
 // The colours: a permitted vertex becomes a reached one; 0 is not permitted.
@@ -74,18 +74,26 @@ fn gather(w: &[u32], q: usize, k: usize, r: &mut [u64])
 }
 
 // The index in the direction of the search, at the front of w: backward, the columns change places.
-pub fn neighbours(n: usize, sources: &[u32], targets: &[u32], backward: bool, w: &mut [u32])
-    requires { ⌜ TableAsk (graph n (now sources) (now targets)) (now w) ⌝ }
-    ensures { λ _. ⌜ One (turned backward (graph n (now (sources .entry)) (now (targets .entry)))) (now (w .entry)) (now (w .exit)) ⌝ }
+pub fn neighbours(
+    n: usize,
+    sources: &[u32],
+    targets: &[u32],
+    kinds: &[u8],
+    mask: u8,
+    backward: bool,
+    w: &mut [u32],
+)
+    requires { ⌜ NeighboursAsk (table n (now sources) (now targets) (now kinds) mask) (now kinds) (now w) ⌝ }
+    ensures { λ _. ⌜ One (turned backward (table n (now (sources .entry)) (now (targets .entry)) (now (kinds .entry)) mask)) (now (w .entry)) (now (w .exit)) ⌝ }
 {
     if backward {
-        build::one(n, targets, sources, w);
+        build::one(n, targets, sources, kinds, mask, w);
         return;
     }
-    build::one(n, sources, targets, w);
+    build::one(n, sources, targets, kinds, mask, w);
 }
 
-// The search along the index at the front of w: r becomes the set of what is reached. The number of edges looked at.
+// The search along the index at the front of w: r becomes the set of what is reached. The number of counted edges looked at.
 pub fn run(
     n: usize,
     m: usize,
