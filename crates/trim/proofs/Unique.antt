@@ -2,13 +2,14 @@
 use Prim.Native.Nat.{ℕ}
 use mathlib.Core.Path.{_≡_, sym, ap, _∙_}
 use mathlib.Core.List.{List}
+use Rattle.graph.specs.Graph.{Graph}
 use Rattle.memory.proofs.Memory.{zeroed-one}
 use Rattle.sets.proofs.Unique.{set-one}
-use Rattle.trim.specs.Promise.{Call, Promise}
+use Rattle.trim.specs.Promise.{Call, PromiseOn}
 use Rattle.trim.specs.declared.Answer.{Answer}
 use Rattle.trim.specs.declared.Answer.the-variants.{Done, Refused}
 
-pub trim-one : (c : Call) (r w ws r' w' ws' : List ℕ) (a a' : Answer) → Promise c r w ws a → Promise c r' w' ws' a'
+pub trim-one : {k : ℕ} {g : Graph} (c : Call) (r w ws r' w' ws' : List ℕ) (a a' : Answer) → PromiseOn k g c r w ws a → PromiseOn k g c r' w' ws' a'
     → (a ≡ a') × (r ≡ r') × (w ≡ w') × (ws ≡ ws')
 trim-one c r w ws r' w' ws' (Done k) (Done k') p q =
     let x = p .gives in

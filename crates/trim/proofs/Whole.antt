@@ -9,13 +9,13 @@ use mathlib.Core.List.{List}
 use lib.ListN.{length}
 use lib.Dec.{T, eqb, ltb, eqb→eq}
 use Rattle.graph.specs.Limits.{wordsOf, Enough}
-use Rattle.graph.specs.Graph.{Graph, graph, rev}
-use Rattle.graph.specs.Numbers.{table, tally, many, mark}
+use Rattle.graph.specs.Graph.{Graph, rev, edges}
+use Rattle.graph.specs.Numbers.{tally, many, mark}
 use Rattle.graph.specs.Search.{part, trim, trimmed, core}
 use Rattle.graph.specs.Sets.{bit, members}
 use Rattle.memory.specs.Memory.{Zeroed, ClearAsk, Cleared}
 use Rattle.memory.proofs.Memory.{zeroed-after}
-use Rattle.graph.proofs.Tests.{table-same, T-dec, eq-T}
+use Rattle.graph.proofs.Tests.{each-same, T-dec, eq-T}
 use Rattle.graph.proofs.Sums.{tally-ext, many-tally}
 use Rattle.graph.proofs.Chains.{valid-rev}
 use Rattle.graph.proofs.Refusals.{or-none, or-left-none, given-none, not-lacking, Passed, table-passed, passed-valid}
@@ -32,7 +32,7 @@ use Rattle.paint.specs.Colours.{Coloured}
 use Rattle.prune.specs.Chain.{Follows}
 use Rattle.prune.specs.Trim.{hued, revAt, TrimAsk, Trimmed}
 use Rattle.trim.specs.Stages.{hue, StringAsk, Strung, CollectAsk, Collected, RunAsk, Ran}
-use Rattle.trim.specs.Promise.{Call, trimRefusal, leftOf, Finished}
+use Rattle.trim.specs.Promise.{Call, refusalOn, trimRefusal, collection, leftOf, Finished}
 use Rattle.prune.proofs.Core.{hued-is, is-hued, core-of}
 
 -- tests that hold together are equal
@@ -48,19 +48,19 @@ unfolding trimmed
 core-same g p p' f = rounds (g .n)
   where
     rounds : (k : ℕ) → trimmed g p k ≡ trimmed g p' k
-    rounds zero = table-same (g .n) p p' f
+    rounds zero = each-same (g .n) p p' f
     rounds (suc k) = ap (trim g) (rounds k)
 
 -- THE STEPS
-module _ {n : ℕ} {sources targets part w₀ r₀ : List ℕ} (a : RunAsk (graph n sources targets) part w₀ r₀) where
-  abbrev g : Graph
-  g = graph n sources targets
+module _ {g : Graph} {kinds part w₀ r₀ : List ℕ} (a : RunAsk g kinds part w₀ r₀) where
+  abbrev n : ℕ
+  n = g .n
 
   abbrev b : ℕ
-  b = 2 * (n + 1 + length sources)
+  b = 2 * (n + 1 + edges g)
 
-  pub both-ask : BothAsk g w₀
-  both-ask = valid-both (a .valid) (a .small) (a .few) (omega (arith, a .room))
+  pub both-ask : BothAsk g kinds w₀
+  both-ask = valid-both (a .valid) (a .kinded) (a .small) (a .few) (omega (arith, a .room))
 
   module _ {w₁ : List ℕ} (o : Both g w₀ w₁) where
     module _ {w₂ : List ℕ} (c : Coloured n b (hue n part) w₁ w₂) where
@@ -148,34 +148,35 @@ module _ {n : ℕ} {sources targets part w₀ r₀ : List ℕ} (a : RunAsk (grap
             long = d .long ∙ z .long;
             set = λ v. d .set v ∙ ap (λ (t : Bool). cond t 1 0) (left v ∙ ap (λ (l : List Bool). mark l v) left-same);
             numbers = t .aside .long ∙ s .long ∙ c .long ∙ o .long;
-            rest = λ j l. t .aside .high j (omega arith) ∙ s .high j (omega arith) ∙ c .high j (omega arith) ∙ o .rest j (omega (arith, start-all (λ e. true) targets (length sources) n));
+            rest = λ j l. t .aside .high j (omega arith) ∙ s .high j (omega arith) ∙ c .high j (omega arith) ∙ o .rest j (omega (arith, start-all (g .counted) (g .tgt) (edges g) n));
           }
 
 -- THE CALL
 -- what a call has that is not refused
 pub record Accepted (c : Call) : Type 0 where
-  pub table : Passed (c .n) (c .sources) (c .targets)
+  pub table : Passed (c .n) (c .sources) (c .targets) (c .kinds)
   pub part : length (c .part) ≡ wordsOf (c .n)
   pub left : length (c .left) ≡ wordsOf (c .n)
   pub memory : Enough (c .n) (length (c .sources)) (length (c .numbers)) (length (c .words))
 
 module _ (c : Call) (e : trimRefusal c ≡ 0) where
   pub accepted : Accepted c
-  unfolding trimRefusal
+  unfolding refusalOn
   accepted =
       let (e1, r1) = or-none _ _ e in
       let (e2, e3) = or-none _ _ r1 in
       let (p, l) = or-left-none _ _ (given-none 5 _ (suc-ne-zero 4) e2) in
       record {
-        table = table-passed (c .n) (c .sources) (c .targets) e1;
+        table = table-passed (c .n) (c .sources) (c .targets) (c .kinds) e1;
         part = sized (c .n) (c .part) p;
         left = sized (c .n) (c .left) l;
         memory = not-lacking (c .n) (length (c .sources)) (length (c .numbers)) (length (c .words)) (given-none 6 _ (suc-ne-zero 5) e3);
       }
 
-  pub run-ask : RunAsk (graph (c .n) (c .sources) (c .targets)) (c .part) (c .numbers) (c .left)
+  pub run-ask : RunAsk (collection c) (c .kinds) (c .part) (c .numbers) (c .left)
   run-ask = let a = accepted in record {
-    valid = passed-valid (c .n) (c .sources) (c .targets) (a .table);
+    valid = passed-valid (c .n) (c .sources) (c .targets) (c .kinds) (c .mask) (a .table);
+    kinded = a .table .kinded;
     small = a .table .small;
     few = a .table .few;
     room = a .memory .numbers;
@@ -190,20 +191,20 @@ module _ (c : Call) (e : trimRefusal c ≡ 0) where
   }
 
   -- the part was trimmed, what is left measured, and the working memory cleared
-  module _ {w₁ r : List ℕ} (z : Ran (graph (c .n) (c .sources) (c .targets)) (c .part) (c .numbers) (c .left) w₁ r) where
-    low : (v : ℕ) → T (mark (leftOf c) v) → v < c .n
+  module _ {w₁ r : List ℕ} (z : Ran (collection c) (c .part) (c .numbers) (c .left) w₁ r) where
+    low : (v : ℕ) → T (mark (leftOf (collection c) c) v) → v < c .n
     low v t =
-        let i = core-is (graph (c .n) (c .sources) (c .targets)) (members (c .n) (c .part)) (λ u y. members-out (c .n) (c .part) u y .0) .inside v t in
+        let i = core-is (collection c) (members (c .n) (c .part)) (λ u y. members-out (c .n) (c .part) u y .0) .inside v t in
         members-out (c .n) (c .part) v i .0
 
     above : (v : ℕ) → c .n ≤ v → bit r v ≡ 0
-    above v l = z .set v ∙ ap (λ (t : Bool). cond t 1 0) (same-test (mark (leftOf c) v) false (λ t. absurd (omega (arith, low v t))) (λ t. absurd t))
+    above v l = z .set v ∙ ap (λ (t : Bool). cond t 1 0) (same-test (mark (leftOf (collection c) c) v) false (λ t. absurd (omega (arith, low v t))) (λ t. absurd t))
 
-    size : (k : ℕ) → k ≡ tally (bit r) (length r * 64) → k ≡ many (mark (leftOf c)) (c .n)
+    size : (k : ℕ) → k ≡ tally (bit r) (length r * 64) → k ≡ many (mark (leftOf (collection c) c)) (c .n)
     size k q = q ∙ size-below r (c .n) (length r * 64) (omega (arith, accepted .left, z .long)) above
-        ∙ tally-ext (bit r) (λ v. cond (mark (leftOf c) v) 1 0) (c .n) (λ v l. z .set v) ∙ sym (many-tally (mark (leftOf c)) (c .n))
+        ∙ tally-ext (bit r) (λ v. cond (mark (leftOf (collection c) c) v) 1 0) (c .n) (λ v l. z .set v) ∙ sym (many-tally (mark (leftOf (collection c) c)) (c .n))
 
-    pub finished : {w ws : List ℕ} {k : ℕ} → Words r → k ≡ tally (bit r) (length r * 64) → Cleared (c .n) (length (c .sources)) w₁ w (c .words) ws → Finished c r w ws k
+    pub finished : {w ws : List ℕ} {k : ℕ} → Words r → k ≡ tally (bit r) (length r * 64) → Cleared (c .n) (length (c .sources)) w₁ w (c .words) ws → Finished (collection c) c r w ws k
     finished {k = k} t q x = record {
       long = z .long;
       fit = t;

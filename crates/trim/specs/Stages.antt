@@ -7,7 +7,7 @@ use mathlib.Core.List.{List}
 use lib.ListN.{length, getD}
 use lib.Dec.{eqb}
 use Rattle.graph.specs.Limits.{wordsOf, mostVertices, mostEdges, numbersNeeded}
-use Rattle.graph.specs.Graph.{Graph, Valid, edges}
+use Rattle.graph.specs.Graph.{Graph, Kinds, Valid, edges}
 use Rattle.graph.specs.Numbers.{mark}
 use Rattle.graph.specs.Search.{core}
 use Rattle.graph.specs.Sets.{bit, members}
@@ -67,8 +67,9 @@ pub record Collected (i b q : ℕ) (w r r' : List ℕ) : Type 0 where
   pub long : length r' ≡ length r
   pub set : (v : ℕ) → bit r' v ≡ cond (hued i b q w v) 1 0
 
-pub record RunAsk (g : Graph) (part w r : List ℕ) : Type 0 where
+pub record RunAsk (g : Graph) (kinds part w r : List ℕ) : Type 0 where
   pub valid : Valid g
+  pub kinded : Kinds (edges g) kinds
   pub small : g .n ≤ mostVertices
   pub few : edges g ≤ mostEdges
   pub room : numbersNeeded (g .n) (edges g) ≤ length w

@@ -1,4 +1,5 @@
-// Trimming: what is left of a part when vertices that no edge of it enters, or none leaves, are taken away, again and again.
+// Trimming: what is left of a part when vertices that no counted edge of it enters, or none leaves, are taken away, again and again.
+ghost use Prim.Native.Nat.{ℕ};
 ghost use mathlib.Core.Path.{_≡_};
 ghost use Rattle.trim.specs.Promise.{trimRefusal, Promise};
 
@@ -13,19 +14,20 @@ pub enum Answer {
     Refused(u32),
 }
 
-// The first of 1 to 6 that applies, or 0.
+// The first of 1, 2, 21, 3, 4, 22, 5, 6 that applies, else 0, whatever the mask.
 fn refusal(
     n: usize,
     sources: &[u32],
     targets: &[u32],
+    kinds: &[u8],
     part: &[u64],
     left: &[u64],
     numbers: &[u32],
     words: &[u64],
 ) -> u32
-    ensures { λ k. ⌜ k ≡ trimRefusal (record { n = n; sources = now (sources .entry); targets = now (targets .entry); part = now (part .entry); left = now (left .entry); numbers = now (numbers .entry); words = now (words .entry) }) ⌝ }
+    ensures { λ k. ⌜ ((mask : ℕ) → k ≡ trimRefusal (record { n = n; sources = now (sources .entry); targets = now (targets .entry); kinds = now (kinds .entry); mask = mask; part = now (part .entry); left = now (left .entry); numbers = now (numbers .entry); words = now (words .entry) })) ⌝ }
 {
-    let fault = table::check(n, sources, targets);
+    let fault = table::check(n, sources, targets, kinds);
     if fault != 0 {
         return fault;
     }
@@ -47,18 +49,20 @@ pub fn trim(
     n: usize,
     sources: &[u32],
     targets: &[u32],
+    kinds: &[u8],
+    mask: u8,
     part: &[u64],
     left: &mut [u64],
     numbers: &mut [u32],
     words: &mut [u64],
 ) -> Answer
-    ensures { λ a. ⌜ Promise (record { n = n; sources = now (sources .entry); targets = now (targets .entry); part = now (part .entry); left = now (left .entry); numbers = now (numbers .entry); words = now (words .entry) }) (now (left .exit)) (now (numbers .exit)) (now (words .exit)) a ⌝ }
+    ensures { λ a. ⌜ Promise (record { n = n; sources = now (sources .entry); targets = now (targets .entry); kinds = now (kinds .entry); mask = mask; part = now (part .entry); left = now (left .entry); numbers = now (numbers .entry); words = now (words .entry) }) (now (left .exit)) (now (numbers .exit)) (now (words .exit)) a ⌝ }
 {
-    let fault = refusal(n, sources, targets, part, left, numbers, words);
+    let fault = refusal(n, sources, targets, kinds, part, left, numbers, words);
     if fault != 0 {
         return Answer::Refused(fault);
     }
-    stages::run(n, sources, targets, part, numbers, left);
+    stages::run(n, sources, targets, kinds, mask, part, numbers, left);
     let vertices = sets::size(left);
     memory::clear(n, sources.len(), numbers, words);
     Answer::Done { vertices: vertices }

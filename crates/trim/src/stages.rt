@@ -1,5 +1,5 @@
 // A set becomes a colour and a chain of places, the part is trimmed, and what has kept the colour becomes a set.
-ghost use Rattle.graph.specs.Graph.{graph};
+ghost use Rattle.graph.specs.Graph.{table};
 ghost use Rattle.paint.specs.Colours.{Coloured};
 ghost use Rattle.trim.specs.Stages.{ColourAsk, hue, Nearer, StringAsk, Strung, KeepAsk, Kept, CollectAsk, Collected, RunAsk, Ran};
 use index::build;
@@ -72,16 +72,18 @@ pub fn run(
     n: usize,
     sources: &[u32],
     targets: &[u32],
+    kinds: &[u8],
+    mask: u8,
     part: &[u64],
     w: &mut [u32],
     left: &mut [u64],
 )
-    requires { ⌜ RunAsk (graph n (now sources) (now targets)) (now part) (now w) (now left) ⌝ }
-    ensures { λ _. ⌜ Ran (graph n (now (sources .entry)) (now (targets .entry))) (now (part .entry)) (now (w .entry)) (now (left .entry)) (now (w .exit)) (now (left .exit)) ⌝ }
+    requires { ⌜ RunAsk (table n (now sources) (now targets) (now kinds) mask) (now kinds) (now part) (now w) (now left) ⌝ }
+    ensures { λ _. ⌜ Ran (table n (now (sources .entry)) (now (targets .entry)) (now (kinds .entry)) mask) (now (part .entry)) (now (w .entry)) (now (left .entry)) (now (w .exit)) (now (left .exit)) ⌝ }
 {
     let b = 2 * (n + 1 + sources.len());
     let q = n as u32;
-    build::both(n, sources, targets, w);
+    build::both(n, sources, targets, kinds, mask, w);
     colour(n, part, w, b);
     let h = string(n, w, b, q);
     prune::prune(n, sources.len(), w, b, h, q);

@@ -3,44 +3,47 @@ use native.Mathlib.Omega.{arith}
 use borrow.Author.Tests.{eq-eqb, ne-eqb}
 use Rattle.graph.specs.Refusal.{given, _or_, tableRefusal}
 use Rattle.graph.proofs.Refusals.{table-limits, or-stop}
-use Rattle.trim.specs.Promise.{trimRefusal}
+use Rattle.trim.specs.Promise.{refusalOn}
 use borrow.Author.Needs.{needs}
 use Rattle.trim.proofs.refusal.Statement.{statement}
 use Rattle.trim.proofs.refusal.Tie as tie
 
--- where the table and the sets are known, and the beginning, seen from where the table has passed
-abbrev sets : tie.Else1 → tie.After-shared-slice-known4
+-- where the sets are known, where the table is, and the beginning, seen from where the table has passed
+abbrev sets : tie.Else1 → tie.After-shared-slice-known5
 sets c = c .before .before .before .before
 
-abbrev start : tie.Else1 → tie.Start
-start c = sets c .before .before .before .before
+abbrev columns : tie.Else1 → tie.After-shared-slice-known3
+columns c = sets c .before .before
 
-pass : (c : tie.Else1) → (let s = start c .args in tableRefusal (s .n) (s .sources .now) (s .targets .now) ≡ 0)
+abbrev start : tie.Else1 → tie.Start
+start c = columns c .before .before .before
+
+pass : (c : tie.Else1) → (let s = start c .args in tableRefusal (s .n) (s .sources .now) (s .targets .now) (s .kinds .now) ≡ 0)
 pass c = sym (c .before .check .ensures) ∙ c .if1 .left
 
 returns : tie.Need-returns
-unfolding trimRefusal given _or_
-returns c = sym (or-stop _ _ (λ e. c .if1 .taken (c .before .check .ensures ∙ e)) ∙ sym (c .before .check .ensures))
+unfolding refusalOn given _or_
+returns c = λ mask. sym (or-stop _ _ (λ e. c .if1 .taken (c .before .check .ensures ∙ e)) ∙ sym (c .before .check .ensures))
 
 returns-2 : tie.Need-returns-2
-unfolding trimRefusal given _or_
-returns-2 c = rw (pass (c .before), ne-eqb _ _ (c .if2 .taken))
+unfolding refusalOn given _or_
+returns-2 c = λ mask. rw (pass (c .before), ne-eqb _ _ (c .if2 .taken))
 
 returns-3 : tie.Need-returns-3
-unfolding trimRefusal given _or_
-returns-3 c = rw (pass (c .before .before), eq-eqb _ _ (c .before .if2 .left), ne-eqb _ _ (c .if3 .taken))
+unfolding refusalOn given _or_
+returns-3 c = λ mask. rw (pass (c .before .before), eq-eqb _ _ (c .before .if2 .left), ne-eqb _ _ (c .if3 .taken))
 
 returns-4 : tie.Need-returns-4
-unfolding trimRefusal given _or_
+unfolding refusalOn given _or_
 returns-4 c =
     let d = c .before .before in
-    rw (pass (d .before .before), eq-eqb _ _ (d .before .if2 .left), eq-eqb _ _ (d .if3 .left), sym (c .before .lacking .ensures) ∙ c .if4 .taken)
+    λ mask. rw (pass (d .before .before), eq-eqb _ _ (d .before .if2 .left), eq-eqb _ _ (d .if3 .left), sym (c .before .lacking .ensures) ∙ c .if4 .taken)
 
 returns-5 : tie.Need-returns-5
-unfolding trimRefusal given _or_
+unfolding refusalOn given _or_
 returns-5 c =
     let d = c .before .before in
-    rw (pass (d .before .before), eq-eqb _ _ (d .before .if2 .left), eq-eqb _ _ (d .if3 .left), sym (c .before .lacking .ensures) ∙ c .if4 .left)
+    λ mask. rw (pass (d .before .before), eq-eqb _ _ (d .before .if2 .left), eq-eqb _ _ (d .if3 .left), sym (c .before .lacking .ensures) ∙ c .if4 .left)
 
 pub refusal-spec : {M : Type 1} → statement M
 refusal-spec =
@@ -48,9 +51,9 @@ refusal-spec =
     (tie.spec
     (λ c κs. search needs)
     returns
-    (λ c. omega (arith, table-limits _ _ _ (pass c) .small))
+    (λ c. omega (arith, table-limits _ _ _ _ (pass c) .small))
     returns-2
     returns-3
-    (λ c κs. table-limits _ _ _ (pass (c .before .before)))
+    (λ c κs. table-limits _ _ _ _ (pass (c .before .before)))
     returns-4
     returns-5)

@@ -1,16 +1,16 @@
 use borrow.Author.Needs.{needs}
-use Rattle.graph.specs.Graph.{Graph, graph}
+use Rattle.graph.specs.Graph.{Graph, table}
 use Rattle.graph.specs.Arrows.{arrows}
 use Rattle.trim.proofs.Whole.{both-ask, trim-ask, collect-ask, ran}
 use Rattle.trim.proofs.stages.run.Statement.{statement}
 use Rattle.trim.proofs.stages.run.Tie as tie
 
 -- each place seen from the next: where table and part are known, the beginning, the indexes, the colours, the chain, the trimming, the emptying
-abbrev shared : tie.After-both-arg → tie.After-shared-slice-known3
+abbrev shared : tie.After-both-arg → tie.After-shared-slice-known4
 shared c = c .before .before .before
 
 abbrev start : tie.After-both-arg → tie.Start
-start c = shared c .before .before .before
+start c = shared c .before .before .before .before
 
 abbrev built : tie.After-colour → tie.After-both
 built c = c .before .before .before .before
@@ -29,7 +29,7 @@ emptied c = c .before .before .before .before
 
 -- the table that was given
 abbrev given : tie.After-string → Graph
-given c = let s = start (built (coloured c) .before) .args in graph (s .n) (s .sources .now) (s .targets .now)
+given c = let s = start (built (coloured c) .before) .args in table (s .n) (s .sources .now) (s .targets .now) (s .kinds .now) (s .mask)
 
 prune-requires : tie.Need-prune-requires
 prune-requires c κs =
