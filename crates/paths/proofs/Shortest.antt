@@ -1,30 +1,32 @@
--- The path that is written is a shortest one, by the smallest edges; 11 and 12 are given exactly where they apply.
+-- The path that is written is a shortest one of counted edges, by the smallest edges; 11 and 12 are given exactly where they apply.
 use Prim.Native.Nat.{ℕ, zero, suc, _≤_, _<_}
 use native.Mathlib.Omega.{arith}
 use native.Mathlib.Nat.{suc-ne-zero}
 use native.Mathlib.Decide.{ℕ-discrete, decLt}
-use mathlib.Core.Path.{_≡_, sym, ap, _∙_}
-use mathlib.Core.Bool.{Bool, _&&_}
+use mathlib.Core.Path.{_≡_, sym, ap, subst₂, _∙_}
+use mathlib.Core.Bool.{Bool, true, true≢false, _&&_}
 use mathlib.Core.Logic.{_↔_}
 use mathlib.Core.List.{List, [], _∷_}
 use lib.ListN.{length, getD, take, drop, List·getD-append}
 use lib.Seq.{take-at, drop-at, getD-at}
 use lib.Dec.{T, eqb, eqb→eq}
 use borrow.Author.Tests.{leb-false}
-use Rattle.graph.specs.Graph.{Graph, Valid, IsEdge, Edge, Chain, Reach, all, edges, from, to}
+use Rattle.graph.specs.Graph.{Graph, graph, table, Kinds, fullMask, Valid, IsEdge, Edge, Chain, Reach, all, edges, from, to}
 use Rattle.graph.specs.Limits.{noPath, roomShort}
+use Rattle.graph.specs.Refusal.{plainRefusal}
 use Rattle.graph.specs.Certificate.{IsDist, distOf}
 use Rattle.graph.specs.Paths.{Path·of, nearer, walk}
 use Rattle.graph.proofs.Tests.{and-l, and-r, and-make, eq-T, least-passes, least-first}
 use Rattle.graph.proofs.Chains.{edge-from-low}
 use Rattle.graph.proofs.Refusals.{or-stop, or-none, given-none}
+use Rattle.graph.proofs.Masks.{table-full, refusal-full}
 use Rattle.graph.proofs.Distance.{dist-is, dist-low, dist-unique, dist-reached}
 use Rattle.graph.proofs.Nearer.{has-nearer}
 use Rattle.graph.proofs.Paths.{walk-path, walk-length}
-use Rattle.paths.specs.Promise.{Call, collection, distance, firstRefusal, pathRefusal, number, Promise}
+use Rattle.paths.specs.Promise.{Call, collection, bare, distance, firstRefusal, refusalOn, pathRefusal, afterSearch, number, PromiseOn, Promise}
 use Rattle.paths.specs.declared.Answer.{Answer}
-use Rattle.paths.specs.declared.Answer.the-variants.{Done}
-use Rattle.paths.proofs.Answers.{ask-most, Admitted, admitted, valid, far-refused, short-refused, not-refused}
+use Rattle.paths.specs.declared.Answer.the-variants.{Done, Refused}
+use Rattle.paths.proofs.Answers.{first-early, Admitted, admitted, valid, far-refused, short-refused, not-refused}
 
 ruleset facts = (and-l, and-r, eqb→eq)
 
@@ -98,7 +100,7 @@ module _ (c : Call) (pass : firstRefusal c ≡ 0) where
 module _ (c : Call) (room numbers words : List ℕ) where
   module _ (d : ℕ) (p : Promise c room numbers words (Done d)) where
     pass : firstRefusal c ≡ 0
-    unfolding pathRefusal
+    unfolding refusalOn
     pass = or-none _ _ (sym (p .refusal)) .0
 
     ok : Valid (collection c)
@@ -108,7 +110,7 @@ module _ (c : Call) (room numbers words : List ℕ) where
     ends = admitted c pass
 
     low : distance c < c .n
-    unfolding pathRefusal
+    unfolding refusalOn
     low = let (_, r) = or-none _ _ (sym (p .refusal)) in leb-false (c .n) (distance c) (given-none 11 _ (suc-ne-zero 10) (or-none _ _ r .0))
 
     is : IsDist (collection c) (c .u) (c .v) d
@@ -141,12 +143,12 @@ module _ (c : Call) (room numbers words : List ℕ) where
   -- 11 AND 12
   module _ (a : Answer) (p : Promise c room numbers words a) where
     -- they come after what is refused before the search
-    passed : 10 < number a → firstRefusal c ≡ 0
-    unfolding pathRefusal
+    passed : afterSearch (number a) ≡ true → firstRefusal c ≡ 0
+    unfolding refusalOn
     passed l = elim (ℕ-discrete (firstRefusal c) 0) as (λ _. firstRefusal c ≡ 0) [
       | yes e ↦ e
       | no o ↦ (let q : pathRefusal c ≡ firstRefusal c = or-stop _ _ o in
-          absurd (omega (arith, l, p .refusal, q, ask-most (c .n) (c .sources) (c .targets) (c .u) (c .v) (length (c .numbers)) (length (c .words)))))
+          absurd (true≢false (sym l ∙ ap afterSearch (p .refusal ∙ q) ∙ first-early c)))
     ]
 
     module _ (pass : firstRefusal c ≡ 0) where
@@ -166,7 +168,7 @@ module _ (c : Call) (room numbers words : List ℕ) where
     -- 11 exactly if no chain leads from u to v
     pub no-path : (number a ≡ noPath) ↔ ((firstRefusal c ≡ 0) × ((h : ℕ) → Chain (collection c) all h (c .u) (c .v) → ⊥))
     no-path = (
-      λ e. let q = passed (omega (arith, e)) in (q, λ h x. let l = reached c q .1 (h, x) in omega (arith, e, p .refusal, short-refused c q l (short q l (λ z. omega (arith, e, z))))),
+      λ e. let q = passed (ap afterSearch e) in (q, λ h x. let l = reached c q .1 (h, x) in omega (arith, e, p .refusal, short-refused c q l (short q l (λ z. omega (arith, e, z))))),
       λ (q, none). elim (decLt (distance c) (c .n)) as (λ _. number a ≡ noPath) [
         | yes l ↦ (let (h, x) = reached c q .0 l in absurd (none h x))
         | no l ↦ p .refusal ∙ far-refused c q (omega arith)
@@ -176,9 +178,30 @@ module _ (c : Call) (room numbers words : List ℕ) where
     -- 12 exactly if the number of edges on a shortest chain exceeds the room
     pub room-short : (number a ≡ roomShort) ↔ ((firstRefusal c ≡ 0) × (d : ℕ) × IsDist (collection c) (c .u) (c .v) d × (length (c .room) < d))
     room-short = (
-      λ e. let q = passed (omega (arith, e)) in let l = near q (λ z. omega (arith, e, z)) in (q, distance c, is-dist c q (reached c q .0 l), short q l (λ z. omega (arith, e, z))),
+      λ e. let q = passed (ap afterSearch e) in let l = near q (λ z. omega (arith, e, z)) in (q, distance c, is-dist c q (reached c q .0 l), short q l (λ z. omega (arith, e, z))),
       λ (q, d, i, l).
           let r : Reach (collection c) all (c .u) (c .v) = (d, i .chain) in
           let t : distance c ≡ d = dist-unique (is-dist c q r) i in
           p .refusal ∙ short-refused c q (reached c q .1 r) (omega (arith, l, t)),
     )
+
+  -- THE FULL MASK
+  -- what is promised of a graph does not depend on the call's kinds and mask
+  bared : {k : ℕ} {g : Graph} (a : Answer) → PromiseOn k g c room numbers words a → PromiseOn k g (bare c) room numbers words a
+  unfolding refusalOn
+  bared (Done d) p =
+      let y = p .gives in
+      record { refusal = p .refusal; gives = record { shortest = y .shortest; written = y .written; numbers-left = y .numbers-left; words-left = y .words-left } }
+  bared (Refused k) p =
+      let y = p .gives in
+      record { refusal = p .refusal; gives = record { refused = y .refused; room-same = y .room-same; numbers-left = y .numbers-left; words-left = y .words-left } }
+
+  -- with kinds from 0 to 7 and the full mask: what is promised of the table without kinds
+  pub path-full : (a : Answer) → Kinds (length (c .sources)) (c .kinds) → c .mask ≡ fullMask → Promise c room numbers words a
+      → PromiseOn (plainRefusal (c .n) (c .sources) (c .targets)) (graph (c .n) (c .sources) (c .targets)) (bare c) room numbers words a
+  path-full a k e p =
+      bared a
+      (subst₂ (λ (r : ℕ) (g : Graph). PromiseOn r g c room numbers words a)
+      (refusal-full (c .n) (c .sources) (c .targets) (c .kinds) k)
+      (ap (λ (mask : ℕ). table (c .n) (c .sources) (c .targets) (c .kinds) mask) e ∙ table-full k (c .n) (c .sources) (c .targets))
+      p)

@@ -4,26 +4,26 @@ use mathlib.Core.Path.{_≡_, sym, ap, _∙_}
 use mathlib.Core.Bool.{Bool, true, false}
 use mathlib.Core.List.{List, _++_}
 use lib.ListN.{drop}
-use lib.Dec.{leb}
-use Rattle.graph.specs.Limits.{wordsNeeded, noPath}
+use Rattle.graph.specs.Graph.{Graph}
+use Rattle.graph.specs.Limits.{wordsNeeded}
 use Rattle.graph.specs.Paths.{walk}
 use Rattle.memory.proofs.Memory.{zeroed-one}
 use Rattle.paths.specs.declared.Answer.{Answer}
 use Rattle.paths.specs.declared.Answer.the-variants.{Done, Refused}
-use Rattle.paths.specs.Promise.{Call, collection, numbersOf, Left, Promise}
+use Rattle.paths.specs.Promise.{Call, numbersOf, afterSearch, Left, PromiseOn}
 
 left-one : (b : Bool) (k : ℕ) (w x y : List ℕ) → Left b k w x → Left b k w y → x ≡ y
 left-one true k w x y p q = zeroed-one p q
 left-one false k w x y p q = p ∙ sym q
 
-pub path-one : (c : Call) (r w x r' w' x' : List ℕ) (a a' : Answer) → Promise c r w x a → Promise c r' w' x' a'
+pub path-one : {k : ℕ} {g : Graph} (c : Call) (r w x r' w' x' : List ℕ) (a a' : Answer) → PromiseOn k g c r w x a → PromiseOn k g c r' w' x' a'
     → (a ≡ a') × (r ≡ r') × (w ≡ w') × (x ≡ x')
-path-one c r w x r' w' x' (Done d) (Done d') p q =
+path-one {g = g} c r w x r' w' x' (Done d) (Done d') p q =
     let y = p .gives in
     let z = q .gives in
     let e : d ≡ d' = y .shortest ∙ sym (z .shortest) in (
       ap Done e,
-      y .written ∙ ap (λ (d : ℕ). walk (collection c) (c .u) d (c .v) ++ drop d (c .room)) e ∙ sym (z .written),
+      y .written ∙ ap (λ (d : ℕ). walk g (c .u) d (c .v) ++ drop d (c .room)) e ∙ sym (z .written),
       zeroed-one (y .numbers-left) (z .numbers-left),
       zeroed-one (y .words-left) (z .words-left),
     )
@@ -33,10 +33,10 @@ path-one c r w x r' w' x' (Refused k) (Refused k') p q =
     let y = p .gives in
     let z = q .gives in
     let e : k ≡ k' = p .refusal ∙ sym (q .refusal) in
-    let m : Left (leb noPath k) (numbersOf c) (c .numbers) w' = rw e (z .numbers-left) in
-    let n : Left (leb noPath k) (wordsNeeded (c .n)) (c .words) x' = rw e (z .words-left) in (
+    let m : Left (afterSearch k) (numbersOf c) (c .numbers) w' = rw e (z .numbers-left) in
+    let n : Left (afterSearch k) (wordsNeeded (c .n)) (c .words) x' = rw e (z .words-left) in (
       ap Refused e,
       y .room-same ∙ sym (z .room-same),
-      left-one (leb noPath k) (numbersOf c) (c .numbers) w w' (y .numbers-left) m,
-      left-one (leb noPath k) (wordsNeeded (c .n)) (c .words) x x' (y .words-left) n,
+      left-one (afterSearch k) (numbersOf c) (c .numbers) w w' (y .numbers-left) m,
+      left-one (afterSearch k) (wordsNeeded (c .n)) (c .words) x x' (y .words-left) n,
     )

@@ -29,7 +29,7 @@ use Rattle.paths.specs.Walk.{reverse, base, sourceAt, FindAsk, Known, Pr
 use Rattle.paths.proofs.Indexes.{Indexed}
 
 -- THE DISTANCES
-module _ {g : Graph} {u : ℕ} {w w₁ : List ℕ} (a : FindAsk g u w) (x : Indexed g w w₁) where
+module _ {g : Graph} {kinds : List ℕ} {u : ℕ} {w w₁ : List ℕ} (a : FindAsk g kinds u w) (x : Indexed g w w₁) where
   pub fill-room : base g + g .n ≤ length w₁
   fill-room = omega (arith, a .room, x .long)
 

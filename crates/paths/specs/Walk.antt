@@ -4,7 +4,7 @@ use mathlib.Core.Path.{_≡_}
 use mathlib.Core.List.{List, _++_}
 use mathlib.Core.Logic.{_⊎_}
 use lib.ListN.{length, getD, drop}
-use Rattle.graph.specs.Graph.{Graph, Valid, rev, edges}
+use Rattle.graph.specs.Graph.{Graph, Kinds, Valid, rev, edges}
 use Rattle.graph.specs.Arrows.{Arrows, on}
 use Rattle.graph.specs.Limits.{mostVertices, mostEdges, noPath, roomShort}
 use Rattle.graph.specs.Certificate.{distOf}
@@ -25,21 +25,22 @@ SomeFrom n s P = (a : Arrows) × (u : ℕ) × P (on n (sourced s a)) u
 abbrev pub EveryFrom : ℕ → List ℕ → (Graph → ℕ → Type 0) → Type 0
 EveryFrom n s P = (a : Arrows) (u : ℕ) → P (on n (sourced s a)) u
 
--- where the numbers of the edges that enter each vertex stand, and where the colours
+-- where the numbers of the counted edges that enter each vertex stand, and where the colours
 abbrev pub reverse : Graph → ℕ
 reverse g = g .n + 1 + edges g
 
 abbrev pub base : Graph → ℕ
 base g = 2 * (g .n + 1 + edges g)
 
-pub record FindAsk (g : Graph) (u : ℕ) (w : List ℕ) : Type 0 where
+pub record FindAsk (g : Graph) (kinds : List ℕ) (u : ℕ) (w : List ℕ) : Type 0 where
   pub valid : Valid g
+  pub kinded : Kinds (edges g) kinds
   pub small : g .n ≤ mostVertices
   pub few : edges g ≤ mostEdges
   pub start : u < g .n
   pub room : base g + g .n + g .n ≤ length w
 
--- w holds by each vertex the numbers of the edges that enter it, and as its colour its distance from u; n + 1 if it is not reached
+-- w holds by each vertex the numbers of the counted edges that enter it, and as its colour its distance from u; n + 1 if it is not reached
 pub record Known (g : Graph) (u : ℕ) (w : List ℕ) : Type 0 where
   pub valid : Valid g
   pub small : g .n ≤ mostVertices

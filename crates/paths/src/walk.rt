@@ -1,20 +1,28 @@
 // Distances from u by levels, and the walk back from v along them.
-ghost use Rattle.graph.specs.Graph.{graph};
+ghost use Rattle.graph.specs.Graph.{table};
 ghost use Rattle.paths.specs.Walk.{SomeFrom, EveryFrom, FindAsk, Prepared, FirstAsk, First, WalkAsk, Walked, SettleAsk, Settled};
 use crate::Answer;
 use graph::limits;
 use index::build;
 use paint::distances;
 
-// The neighbours, behind them the edge numbers by target, and behind both as colours the distances from u: n + 1 is no distance.
-pub fn find(n: usize, sources: &[u32], targets: &[u32], u: usize, w: &mut [u32])
-    requires { ⌜ FindAsk (graph n (now sources) (now targets)) u (now w) ⌝ }
-    ensures { λ _. ⌜ Prepared (graph n (now (sources .entry)) (now (targets .entry))) u (now (w .entry)) (now (w .exit)) ⌝ }
+// The neighbours, behind them the counted edges' numbers by target, and behind both as colours the distances from u: n + 1 is no distance.
+pub fn find(
+    n: usize,
+    sources: &[u32],
+    targets: &[u32],
+    kinds: &[u8],
+    mask: u8,
+    u: usize,
+    w: &mut [u32],
+)
+    requires { ⌜ FindAsk (table n (now sources) (now targets) (now kinds) mask) (now kinds) u (now w) ⌝ }
+    ensures { λ _. ⌜ Prepared (table n (now (sources .entry)) (now (targets .entry)) (now (kinds .entry)) mask) u (now (w .entry)) (now (w .exit)) ⌝ }
 {
-    build::one(n, sources, targets, w);
+    build::one(n, sources, targets, kinds, mask, w);
     let k = n + 1 + sources.len();
     let b = 2 * k;
-    build::numbers(n, targets, &mut w[k..b]);
+    build::numbers(n, targets, kinds, mask, &mut w[k..b]);
     let far = (n + 1) as u32;
     memory::fill(w, b, n, far);
     distances::measure(n, w, 0, b, u, far);

@@ -9,7 +9,7 @@ use Rattle.paths.proofs.path.Tie as tie
 
 -- what was given, and that it is not refused before the search
 abbrev call : tie.After-slice-known2 → Call
-call c = let s = c .before .before .before .before in record { n = s .args .n; sources = s .args .sources .now; targets = s .args .targets .now; u = s .args .u; v = s .args .v; room = s .args .room .now; numbers = s .args .numbers .now; words = s .args .words .now }
+call c = let at-shared = c .before .before in let s = at-shared .before .before .before in record { n = s .args .n; sources = s .args .sources .now; targets = s .args .targets .now; kinds = s .args .kinds .now; mask = s .args .mask; u = s .args .u; v = s .args .v; room = s .args .room .now; numbers = s .args .numbers .now; words = s .args .words .now }
 
 abbrev asked : tie.After-refusal → Call
 asked c = call (c .before .before)
@@ -26,7 +26,7 @@ pass : (c : tie.Else1) → firstRefusal (asked (c .before)) ≡ 0
 pass c = sym (c .before .refusal .ensures) ∙ c .if1 .left
 
 -- the answer may be settled
-ask : (c : tie.After-find) → SettleAsk (collection (asked (c .before .before .before))) (asked (c .before .before .before) .u) (asked (c .before .before .before) .v) (c .find .last .1 .1 .1 .1 .0)
+ask : (c : tie.After-find) → SettleAsk (collection (asked (c .before .before .before))) (asked (c .before .before .before) .u) (asked (c .before .before .before) .v) (c .find .last .1 .1 .1 .1 .1 .1 .0)
 ask c = record { known = c .find .ensures .known; vertex = admitted (asked (c .before .before .before)) (pass (c .before .before)) .v-low }
 
 returns : tie.Need-returns
