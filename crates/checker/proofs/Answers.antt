@@ -6,13 +6,13 @@ use native.Mathlib.Decide.{ℕ-discrete, decLt}
 use mathlib.Core.Path.{_≡_, refl, sym, subst, _∙_}
 use mathlib.Core.Logic.{_↔_, _⊎_, inl, inr, ⊎-elim, by-cases}
 use lib.Dec.{T, eqb, eqb→eq, T-not, not-T}
-use Rattle.graph.specs.Graph.{Graph, graph, rev, edges}
+use Rattle.graph.specs.Graph.{Graph, rev, edges}
 use Rattle.graph.specs.Numbers.{least}
 use Rattle.graph.specs.Checker.{Columns, check1, check2, check3, check5, fault, verdict}
 use Rattle.graph.specs.Checker as graph-checker
 use Rattle.graph.proofs.Tests.{T-dec, T-true, no-T, cond-true, cond-false, least-passes, least-first}
 use Rattle.graph.proofs.Verdict.{Passes, fault-none, accepted-verdict}
-use Rattle.checker.specs.Promise.{Call, checkerRefusal, outcome, done, Promise}
+use Rattle.checker.specs.Promise.{Call, collection, checkerRefusal, outcome, done, Promise}
 use Rattle.checker.specs.Answer.{Fails, one, two, three, four, FirstFailed, at-vertex, at-edge, Says}
 use Rattle.checker.specs.declared.Verdict.{Verdict}
 use Rattle.checker.specs.declared.Verdict.the-variants.{Accepted, Failed, Refused}
@@ -85,14 +85,14 @@ module _ (g : Graph) (c : Columns) where
 module _ (c : Call) where
   says-promise : (a : Verdict) → Says c a → Promise c a
   unfolding Says outcome
-  says-promise Accepted (e, x) = judged-promise c Accepted e (rw (accepted-verdict (graph (c .n) (c .sources) (c .targets)) (c .given-columns) x))
-  says-promise (Failed k x) (e, f) = judged-promise c (Failed k x) e (failed-verdict (graph (c .n) (c .sources) (c .targets)) (c .given-columns) f)
+  says-promise Accepted (e, x) = judged-promise c Accepted e (rw (accepted-verdict (collection c) (c .given-columns) x))
+  says-promise (Failed k x) (e, f) = judged-promise c (Failed k x) e (failed-verdict (collection c) (c .given-columns) f)
   says-promise (Refused k) (e, o) = refused-promise c k (sym e) o
 
   some-answer : (a : Verdict) × Says c a
   unfolding Says
   some-answer = by-cases (ℕ-discrete (checkerRefusal c) 0)
-      (λ e. ⊎-elim (λ x. (Accepted, (e, x))) (λ (k, x, f). (Failed k x, (e, f))) (judged (graph (c .n) (c .sources) (c .targets)) (c .given-columns)))
+      (λ e. ⊎-elim (λ x. (Accepted, (e, x))) (λ (k, x, f). (Failed k x, (e, f))) (judged (collection c) (c .given-columns)))
       (λ o. (Refused (checkerRefusal c), (refl, o)))
 
   -- AN ANSWER IS GIVEN EXACTLY WHERE WHAT IT SAYS HOLDS

@@ -9,15 +9,15 @@ use lib.ListN.{length}
 use lib.Dec.{leb, eqb, leb→le, eqb→eq}
 use borrow.Author.Tests.{eqb-true, eq-eqb, ne-eqb, lt-ltb, le-ltb, not-true, not-false}
 use borrow.Author.Count.{below-more}
-use Rattle.graph.specs.Graph.{Graph, Valid, graph, rev, edges}
+use Rattle.graph.specs.Graph.{Graph, Valid, graph, table, rev, edges}
 use Rattle.graph.specs.Refusal.{given, _or_, tableRefusal}
 use Rattle.graph.specs.Checker.{Columns, Sized, at, check1, check2, check3, check5, fault, verdict}
 use Rattle.graph.proofs.Tests.{and-split}
-use Rattle.graph.proofs.Chains.{graph-turned, valid-rev}
+use Rattle.graph.proofs.Chains.{table-turned, valid-rev}
 use Rattle.graph.proofs.Least.{least-found, least-none}
-use Rattle.graph.proofs.Refusals.{or-none, or-most, given-none, given-most, or-left-none, table-most, Passed, table-passed, passed-valid}
+use Rattle.graph.proofs.Refusals.{or-none, given-none, or-left-none, Passed, table-passed, passed-valid}
 use Rattle.checker.specs.Contract.{columns, labelAndRank, RankAsk, VertexAsk, EdgeAsk, EdgesAsk, FaultAsk, Ready}
-use Rattle.checker.specs.Promise.{Call, wrongSize, checkerRefusal, edgeVerdict, outcome, promised, Promise, done}
+use Rattle.checker.specs.Promise.{Call, collection, wrongSize, refusalOn, checkerRefusal, edgeVerdict, outcome, promisedOn, Promise, done}
 use Rattle.checker.specs.declared.Verdict.{Verdict}
 use Rattle.checker.specs.declared.Verdict.the-variants.{Accepted, Failed, Refused}
 
@@ -29,69 +29,69 @@ own-says c v e =
     let (p, q) = and-split (leb l v) (eqb (at (c .label) l) l) (rw e tt) in
     (leb→le l v p, eqb→eq (at (c .label) l) l q)
 
-pub edge-ask : {n : ℕ} {sources targets label rank : List ℕ} {e : ℕ} → EdgesAsk n sources targets label rank → e < length sources → EdgeAsk n sources targets label rank e
+pub edge-ask : {g : Graph} {kinds label rank : List ℕ} {e : ℕ} → EdgesAsk g kinds label rank → e < edges g → EdgeAsk g kinds label rank e
 edge-ask {e = e} a l =
-    record { label-size = a .label-size; rank-size = a .rank-size; low = l; same = a .valid .same; leaves = a .valid .from-low e l; enters = a .valid .to-low e l }
-
-pub table-none : (n : ℕ) (s t : List ℕ) {k : ℕ} → k ≡ tableRefusal n s t → k ≡ 0 → tableRefusal n s t ≡ 0
-table-none n s t p q = sym p ∙ q
+    record {
+      kinded = a .kinded;
+      label-size = a .label-size;
+      rank-size = a .rank-size;
+      low = l;
+      long = a .valid .long;
+      same = a .valid .same;
+      leaves = a .valid .from-low e l;
+      enters = a .valid .to-low e l;
+    }
 
 -- check 4 is check 3 with the table's columns exchanged
-module _ (n : ℕ) (s t : List ℕ) (ok : Valid (graph n s t)) where
-  pub valid-turned : Valid (graph n t s)
-  valid-turned = subst Valid (sym (graph-turned n s t (ok .same))) (valid-rev ok)
+module _ (n : ℕ) (s t kinds : List ℕ) (mask : ℕ) (lab edge dist : List ℕ) (v : ℕ) (x : VertexAsk (table n s t kinds mask) kinds lab edge dist v) where
+  pub turned-ask : VertexAsk (table n t s kinds mask) kinds lab edge dist v
+  turned-ask =
+      let even : length t ≡ length s = x .valid .same in
+      record {
+        valid = subst Valid (sym (table-turned n s t kinds mask even)) (valid-rev (x .valid));
+        kinded = record { even = x .kinded .even ∙ sym even; low = λ e l. x .kinded .low e (omega arith) };
+        label-size = x .label-size;
+        edge-size = x .edge-size;
+        distance-size = x .distance-size;
+        low = x .low;
+      }
 
-  pub check-turned : (lab edge dist : List ℕ) (v : ℕ) → check3 (rev (graph n s t)) lab edge dist v ≡ check3 (graph n t s) lab edge dist v
-  check-turned lab edge dist v = ap (λ (g : Graph). check3 g lab edge dist v) (sym (graph-turned n s t (ok .same)))
+  pub turned-tells : {r : Bool} → r ≡ check3 (table n t s kinds mask) lab edge dist v → r ≡ check3 (rev (table n s t kinds mask)) lab edge dist v
+  turned-tells q = q ∙ ap (λ (g : Graph). check3 g lab edge dist v) (table-turned n s t kinds mask (x .valid .same))
 
 -- what fault asks, and what it gives, test by test
-pub rank-ask : {n : ℕ} {s t label rank ie id oe od : List ℕ} {v : ℕ} → FaultAsk (graph n s t) (columns label rank ie id oe od) v
-    → {a : Bool} → a ≡ check1 (labelAndRank label []) v → not a ≡ false → RankAsk n label rank v
-rank-ask {label = label} {v = v} x {a} one p =
+pub rank-ask : {g : Graph} {kinds : List ℕ} {c : Columns} {v : ℕ} → FaultAsk g kinds c v → {a : Bool} → a ≡ check1 (labelAndRank (c .label) []) v → not a ≡ false → RankAsk (g .n) (c .label) (c .rank) v
+rank-ask {c = c} {v = v} x {a} one p =
     record {
       label-size = x .ready .sized .label;
       rank-size = x .ready .sized .rank;
       low = x .low;
-      label-low = omega (arith, x .low, own-says (labelAndRank label []) v (sym one ∙ not-false a p) .0);
+      label-low = omega (arith, x .low, own-says (labelAndRank (c .label) []) v (sym one ∙ not-false a p) .0);
     }
 
-pub out-ask : {n : ℕ} {s t label rank ie id oe od : List ℕ} {v : ℕ} → FaultAsk (graph n s t) (columns label rank ie id oe od) v → VertexAsk n t s label oe od v
-out-ask {n} {s} {t} x =
-    record {
-      valid = valid-turned n s t (x .ready .valid);
-      label-size = x .ready .sized .label;
-      edge-size = x .ready .sized .outEdge;
-      distance-size = x .ready .sized .outDist;
-      low = x .low;
-    }
-
-module _ (n : ℕ) (s t label rank ie id oe od : List ℕ) (v : ℕ) {a : Bool} (one : a ≡ check1 (labelAndRank label []) v) where
-  pub fault-one : not a ≡ true → 1 ≡ fault (graph n s t) (columns label rank ie id oe od) v
+module _ (g : Graph) (label rank ie id oe od : List ℕ) (v : ℕ) {a : Bool} (one : a ≡ check1 (labelAndRank label []) v) where
+  pub fault-one : not a ≡ true → 1 ≡ fault g (columns label rank ie id oe od) v
   unfolding fault check1
   fault-one f = rw (sym one ∙ not-true a f)
 
-  module _ (p : not a ≡ false) {b : Bool} (two : b ≡ check2 (graph n [] []) (labelAndRank label rank) v) where
-    pub fault-two : not b ≡ true → 2 ≡ fault (graph n s t) (columns label rank ie id oe od) v
+  module _ (p : not a ≡ false) {b : Bool} (two : b ≡ check2 (graph (g .n) [] []) (labelAndRank label rank) v) where
+    pub fault-two : not b ≡ true → 2 ≡ fault g (columns label rank ie id oe od) v
     unfolding fault check1 check2
     fault-two f = rw (sym one ∙ not-false a p, sym two ∙ not-true b f)
 
-    module _ (q : not b ≡ false) {d : Bool} (three : d ≡ check3 (graph n s t) label ie id v) where
-      pub fault-three : not d ≡ true → 3 ≡ fault (graph n s t) (columns label rank ie id oe od) v
+    module _ (q : not b ≡ false) {d : Bool} (three : d ≡ check3 g label ie id v) where
+      pub fault-three : not d ≡ true → 3 ≡ fault g (columns label rank ie id oe od) v
       unfolding fault check1 check2
       fault-three f = rw (sym one ∙ not-false a p, sym two ∙ not-false b q, sym three ∙ not-true d f)
 
-      module _ (r : not d ≡ false) (x : FaultAsk (graph n s t) (columns label rank ie id oe od) v) {e : Bool} (four : e ≡ check3 (graph n t s) label oe od v) where
-        -- check 4 is what the second test by exchanged columns told
-        told : check3 (rev (graph n s t)) label oe od v ≡ e
-        told = check-turned n s t (x .ready .valid) label oe od v ∙ sym four
-
-        pub fault-four : not e ≡ true → 4 ≡ fault (graph n s t) (columns label rank ie id oe od) v
+      module _ (r : not d ≡ false) {e : Bool} (four : e ≡ check3 (rev g) label oe od v) where
+        pub fault-four : not e ≡ true → 4 ≡ fault g (columns label rank ie id oe od) v
         unfolding fault check1 check2
-        fault-four f = rw (sym one ∙ not-false a p, sym two ∙ not-false b q, sym three ∙ not-false d r, told ∙ not-true e f)
+        fault-four f = rw (sym one ∙ not-false a p, sym two ∙ not-false b q, sym three ∙ not-false d r, sym four ∙ not-true e f)
 
-        pub fault-none : not e ≡ false → 0 ≡ fault (graph n s t) (columns label rank ie id oe od) v
+        pub fault-none : not e ≡ false → 0 ≡ fault g (columns label rank ie id oe od) v
         unfolding fault check1 check2
-        fault-none f = rw (sym one ∙ not-false a p, sym two ∙ not-false b q, sym three ∙ not-false d r, told ∙ not-false e f)
+        fault-none f = rw (sym one ∙ not-false a p, sym two ∙ not-false b q, sym three ∙ not-false d r, sym four ∙ not-false e f)
 
 -- columns of which none has the wrong size
 sized : (n : ℕ) (c : Columns) → wrongSize n c ≡ false → Sized n c
@@ -117,36 +117,30 @@ unfolding wrongSize
 sizes-pass n c z = rw (z .label, z .rank, z .inEdge, z .inDist, z .outEdge, z .outDist, eq-eqb n n refl)
 
 module _ (c : Call) where
-  abbrev table-of : Graph
-  table-of = graph (c .n) (c .sources) (c .targets)
-
-  pub call-most : checkerRefusal c ≤ 5
-  unfolding checkerRefusal
-  call-most = or-most _ _ 5 (omega (arith, table-most (c .n) (c .sources) (c .targets))) (given-most 5 _ 5 (omega arith))
-
   -- a call that is not refused
-  pub call-passed : checkerRefusal c ≡ 0 → Passed (c .n) (c .sources) (c .targets)
-  unfolding checkerRefusal
-  call-passed e = table-passed (c .n) (c .sources) (c .targets) (or-none (tableRefusal (c .n) (c .sources) (c .targets)) _ e .0)
+  pub call-passed : checkerRefusal c ≡ 0 → Passed (c .n) (c .sources) (c .targets) (c .kinds)
+  unfolding refusalOn
+  call-passed e = table-passed (c .n) (c .sources) (c .targets) (c .kinds) (or-none (tableRefusal (c .n) (c .sources) (c .targets) (c .kinds)) _ e .0)
 
-  pub call-ready : checkerRefusal c ≡ 0 → Ready table-of (c .given-columns)
-  unfolding checkerRefusal
+  pub call-ready : checkerRefusal c ≡ 0 → Ready (collection c) (c .kinds) (c .given-columns)
+  unfolding refusalOn
   call-ready e = record {
-    valid = passed-valid (c .n) (c .sources) (c .targets) (call-passed e);
-    sized = sized (c .n) (c .given-columns) (given-none 5 _ (suc-ne-zero 4) (or-none (tableRefusal (c .n) (c .sources) (c .targets)) _ e .1));
+    valid = passed-valid (c .n) (c .sources) (c .targets) (c .kinds) (c .mask) (call-passed e);
+    kinded = call-passed e .kinded;
+    sized = sized (c .n) (c .given-columns) (given-none 5 _ (suc-ne-zero 4) (or-none (tableRefusal (c .n) (c .sources) (c .targets) (c .kinds)) _ e .1));
   }
 
   -- a table that is not refused, and columns of its size
-  pub ready-call : tableRefusal (c .n) (c .sources) (c .targets) ≡ 0 → Sized (c .n) (c .given-columns) → checkerRefusal c ≡ 0
-  unfolding checkerRefusal given _or_
+  pub ready-call : tableRefusal (c .n) (c .sources) (c .targets) (c .kinds) ≡ 0 → Sized (c .n) (c .given-columns) → checkerRefusal c ≡ 0
+  unfolding refusalOn given _or_
   ready-call e z = rw (e, sizes-pass (c .n) (c .given-columns) z)
 
   pub refused-promise : (k : ℕ) → k ≡ checkerRefusal c → (k ≡ 0 → ⊥) → Promise c (Refused k)
-  unfolding promised outcome
+  unfolding promisedOn outcome
   refused-promise k e o = rw (← e, ne-eqb k 0 o)
 
-  pub judged-promise : (r : Verdict) → checkerRefusal c ≡ 0 → outcome r ≡ done (verdict table-of (c .given-columns)) → Promise c r
-  unfolding promised
+  pub judged-promise : (r : Verdict) → checkerRefusal c ≡ 0 → outcome r ≡ done (verdict (collection c) (c .given-columns)) → Promise c r
+  unfolding promisedOn
   judged-promise r e q = rw e q
 
 -- the verdict of a loop over the edges, and of one over the vertices

@@ -2,10 +2,10 @@
 use Prim.Native.Nat.{ℕ, _<_}
 use mathlib.Core.Path.{_≡_}
 use lib.Dec.{T}
-use Rattle.graph.specs.Graph.{Graph, graph, rev, edges}
+use Rattle.graph.specs.Graph.{Graph, rev, edges}
 use Rattle.graph.specs.Checker.{Columns, check1, check2, check3, check5}
 use Rattle.graph.specs.Checker as graph-checker
-use Rattle.checker.specs.Promise.{Call, checkerRefusal}
+use Rattle.checker.specs.Promise.{Call, collection, checkerRefusal}
 use Rattle.checker.specs.declared.Verdict.{Verdict}
 use Rattle.checker.specs.declared.Verdict.the-variants.{Accepted, Failed, Refused}
 
@@ -24,6 +24,6 @@ pub data FirstFailed (g : Graph) (c : Columns) : ℕ → ℕ → Type 0 where
 
 -- what each answer says of a call
 unfoldable pub Says : Call → Verdict → Type 0
-Says c Accepted = (checkerRefusal c ≡ 0) × graph-checker.Accepted (graph (c .n) (c .sources) (c .targets)) (c .given-columns)
-Says c (Failed k x) = (checkerRefusal c ≡ 0) × FirstFailed (graph (c .n) (c .sources) (c .targets)) (c .given-columns) k x
+Says c Accepted = (checkerRefusal c ≡ 0) × graph-checker.Accepted (collection c) (c .given-columns)
+Says c (Failed k x) = (checkerRefusal c ≡ 0) × FirstFailed (collection c) (c .given-columns) k x
 Says c (Refused k) = (checkerRefusal c ≡ k) × (k ≡ 0 → ⊥)

@@ -1,12 +1,13 @@
-// The five checks, one function each; check 4 is check 3 with sources and targets exchanged.
+// The five checks, one function each.
 ghost use mathlib.Core.Path.{_≡_};
 ghost use mathlib.Core.List.{[]};
 ghost use Prim.Native.Nat.{_<_};
 ghost use lib.ListN.{length};
-ghost use Rattle.graph.specs.Graph.{graph};
+ghost use Rattle.graph.specs.Graph.{graph, table, rev};
 ghost use Rattle.graph.specs.Checker.{check1, check2, check3, check5, entry, fault};
 ghost use Rattle.checker.specs.Contract.{labelAndRank, columns, RankAsk, EntryAsk, VertexAsk, EdgeAsk, FaultAsk};
 use crate::NO_EDGE;
+use graph::table;
 
 // Check 1: the label is at most v and is its own label.
 pub fn labelled(label: &[u32], v: usize) -> bool
@@ -35,20 +36,25 @@ pub fn ranked(n: usize, label: &[u32], rank: &[u32], v: usize) -> bool
     r == own
 }
 
-// Edge e enters v from a vertex u of the same label, and v's distance is below n and one more than u's.
+// Edge e counts and enters v from a vertex u of the same label, and v's distance is below n and one more than u's.
 pub fn entry(
     n: usize,
     sources: &[u32],
     targets: &[u32],
+    kinds: &[u8],
+    mask: u8,
     label: &[u32],
     distance: &[u32],
     e: usize,
     v: usize,
 ) -> bool
-    requires { ⌜ EntryAsk n (now sources) (now targets) (now label) (now distance) v ⌝ }
-    ensures { λ r. ⌜ r ≡ entry (graph n (now (sources .entry)) (now (targets .entry))) (now (label .entry)) (now (distance .entry)) e v ⌝ }
+    requires { ⌜ EntryAsk (table n (now sources) (now targets) (now kinds) mask) (now kinds) (now label) (now distance) v ⌝ }
+    ensures { λ r. ⌜ r ≡ entry (table n (now (sources .entry)) (now (targets .entry)) (now (kinds .entry)) mask) (now (label .entry)) (now (distance .entry)) e v ⌝ }
 {
     if sources.len() <= e {
+        return false;
+    }
+    if table::counted(kinds, mask, e) == 0 {
         return false;
     }
     let t = targets[e] as usize;
@@ -72,18 +78,20 @@ pub fn entered(
     n: usize,
     sources: &[u32],
     targets: &[u32],
+    kinds: &[u8],
+    mask: u8,
     label: &[u32],
     edge: &[u32],
     distance: &[u32],
     v: usize,
 ) -> bool
-    requires { ⌜ VertexAsk n (now sources) (now targets) (now label) (now edge) (now distance) v ⌝ }
-    ensures { λ r. ⌜ r ≡ check3 (graph n (now (sources .entry)) (now (targets .entry))) (now (label .entry)) (now (edge .entry)) (now (distance .entry)) v ⌝ }
+    requires { ⌜ VertexAsk (table n (now sources) (now targets) (now kinds) mask) (now kinds) (now label) (now edge) (now distance) v ⌝ }
+    ensures { λ r. ⌜ r ≡ check3 (table n (now (sources .entry)) (now (targets .entry)) (now (kinds .entry)) mask) (now (label .entry)) (now (edge .entry)) (now (distance .entry)) v ⌝ }
 {
     let l = label[v] as usize;
     if l != v {
         let e = edge[v] as usize;
-        return entry(n, sources, targets, label, distance, e, v);
+        return entry(n, sources, targets, kinds, mask, label, distance, e, v);
     }
     if edge[v] != NO_EDGE {
         return false;
@@ -91,18 +99,42 @@ pub fn entered(
     distance[v] == 0
 }
 
-// Check 5: an edge between different labels leads to a greater rank.
+// Check 4: check 3 with sources and targets exchanged.
+pub fn exited(
+    n: usize,
+    sources: &[u32],
+    targets: &[u32],
+    kinds: &[u8],
+    mask: u8,
+    label: &[u32],
+    edge: &[u32],
+    distance: &[u32],
+    v: usize,
+) -> bool
+    requires { ⌜ VertexAsk (table n (now sources) (now targets) (now kinds) mask) (now kinds) (now label) (now edge) (now distance) v ⌝ }
+    ensures { λ r. ⌜ r ≡ check3 (rev (table n (now (sources .entry)) (now (targets .entry)) (now (kinds .entry)) mask)) (now (label .entry)) (now (edge .entry)) (now (distance .entry)) v ⌝ }
+{
+    entered(n, targets, sources, kinds, mask, label, edge, distance, v)
+}
+
+// Check 5: a counted edge between different labels leads to a greater rank.
 pub fn rises(
     n: usize,
     sources: &[u32],
     targets: &[u32],
+    kinds: &[u8],
+    mask: u8,
     label: &[u32],
     rank: &[u32],
     e: usize,
 ) -> bool
-    requires { ⌜ EdgeAsk n (now sources) (now targets) (now label) (now rank) e ⌝ }
-    ensures { λ r. ⌜ r ≡ check5 (graph n (now (sources .entry)) (now (targets .entry))) (labelAndRank (now (label .entry)) (now (rank .entry))) e ⌝ }
+    requires { ⌜ EdgeAsk (table n (now sources) (now targets) (now kinds) mask) (now kinds) (now label) (now rank) e ⌝ }
+    ensures { λ r. ⌜ r ≡ check5 (table n (now (sources .entry)) (now (targets .entry)) (now (kinds .entry)) mask) (labelAndRank (now (label .entry)) (now (rank .entry))) e ⌝ }
 {
+    let counts = table::counted(kinds, mask, e);
+    if counts == 0 {
+        return true;
+    }
     let u = sources[e] as usize;
     let v = targets[e] as usize;
     if label[u] == label[v] {
@@ -116,6 +148,8 @@ pub fn fault(
     n: usize,
     sources: &[u32],
     targets: &[u32],
+    kinds: &[u8],
+    mask: u8,
     label: &[u32],
     rank: &[u32],
     in_edge: &[u32],
@@ -124,8 +158,8 @@ pub fn fault(
     out_distance: &[u32],
     v: usize,
 ) -> u32
-    requires { ⌜ FaultAsk (graph n (now sources) (now targets)) (columns (now label) (now rank) (now «in_edge») (now «in_distance») (now «out_edge») (now «out_distance»)) v ⌝ }
-    ensures { λ r. ⌜ r ≡ fault (graph n (now (sources .entry)) (now (targets .entry))) (columns (now (label .entry)) (now (rank .entry)) (now («in_edge» .entry)) (now («in_distance» .entry)) (now («out_edge» .entry)) (now («out_distance» .entry))) v ⌝ }
+    requires { ⌜ FaultAsk (table n (now sources) (now targets) (now kinds) mask) (now kinds) (columns (now label) (now rank) (now «in_edge») (now «in_distance») (now «out_edge») (now «out_distance»)) v ⌝ }
+    ensures { λ r. ⌜ r ≡ fault (table n (now (sources .entry)) (now (targets .entry)) (now (kinds .entry)) mask) (columns (now (label .entry)) (now (rank .entry)) (now («in_edge» .entry)) (now («in_distance» .entry)) (now («out_edge» .entry)) (now («out_distance» .entry))) v ⌝ }
 {
     if !labelled(label, v) {
         return 1;
@@ -133,10 +167,30 @@ pub fn fault(
     if !ranked(n, label, rank, v) {
         return 2;
     }
-    if !entered(n, sources, targets, label, in_edge, in_distance, v) {
+    if !entered(
+        n,
+        sources,
+        targets,
+        kinds,
+        mask,
+        label,
+        in_edge,
+        in_distance,
+        v,
+    ) {
         return 3;
     }
-    if !entered(n, targets, sources, label, out_edge, out_distance, v) {
+    if !exited(
+        n,
+        sources,
+        targets,
+        kinds,
+        mask,
+        label,
+        out_edge,
+        out_distance,
+        v,
+    ) {
         return 4;
     }
     0

@@ -1,6 +1,7 @@
 // The checker of a certificate: six columns against the edge table, by five checks.
+ghost use Prim.Native.Nat.{ℕ};
 ghost use mathlib.Core.Path.{_≡_};
-ghost use Rattle.graph.specs.Graph.{graph};
+ghost use Rattle.graph.specs.Graph.{table};
 ghost use Rattle.graph.specs.Checker.{verdict};
 ghost use Rattle.checker.specs.Contract.{labelAndRank, columns, EdgesAsk, Ready};
 ghost use Rattle.checker.specs.Promise.{call, checkerRefusal, done, outcome, edgeVerdict, Promise};
@@ -20,13 +21,21 @@ pub enum Verdict {
 }
 
 // The verdict of check 5 on all edges.
-fn judge_edges(n: usize, sources: &[u32], targets: &[u32], label: &[u32], rank: &[u32]) -> Verdict
-    requires { ⌜ EdgesAsk n (now sources) (now targets) (now label) (now rank) ⌝ }
-    ensures { λ r. ⌜ outcome r ≡ done (edgeVerdict (graph n (now (sources .entry)) (now (targets .entry))) (labelAndRank (now (label .entry)) (now (rank .entry)))) ⌝ }
+fn judge_edges(
+    n: usize,
+    sources: &[u32],
+    targets: &[u32],
+    kinds: &[u8],
+    mask: u8,
+    label: &[u32],
+    rank: &[u32],
+) -> Verdict
+    requires { ⌜ EdgesAsk (table n (now sources) (now targets) (now kinds) mask) (now kinds) (now label) (now rank) ⌝ }
+    ensures { λ r. ⌜ outcome r ≡ done (edgeVerdict (table n (now (sources .entry)) (now (targets .entry)) (now (kinds .entry)) mask) (labelAndRank (now (label .entry)) (now (rank .entry)))) ⌝ }
 {
     let mut e = 0;
     while e < sources.len() {
-        if !checks::rises(n, sources, targets, label, rank, e) {
+        if !checks::rises(n, sources, targets, kinds, mask, label, rank, e) {
             return Verdict::Failed { check: 5, place: e };
         }
         e += 1;
@@ -39,6 +48,8 @@ fn judge(
     n: usize,
     sources: &[u32],
     targets: &[u32],
+    kinds: &[u8],
+    mask: u8,
     label: &[u32],
     rank: &[u32],
     in_edge: &[u32],
@@ -46,8 +57,8 @@ fn judge(
     out_edge: &[u32],
     out_distance: &[u32],
 ) -> Verdict
-    requires { ⌜ Ready (graph n (now sources) (now targets)) (columns (now label) (now rank) (now «in_edge») (now «in_distance») (now «out_edge») (now «out_distance»)) ⌝ }
-    ensures { λ r. ⌜ outcome r ≡ done (verdict (graph n (now (sources .entry)) (now (targets .entry))) (columns (now (label .entry)) (now (rank .entry)) (now («in_edge» .entry)) (now («in_distance» .entry)) (now («out_edge» .entry)) (now («out_distance» .entry)))) ⌝ }
+    requires { ⌜ Ready (table n (now sources) (now targets) (now kinds) mask) (now kinds) (columns (now label) (now rank) (now «in_edge») (now «in_distance») (now «out_edge») (now «out_distance»)) ⌝ }
+    ensures { λ r. ⌜ outcome r ≡ done (verdict (table n (now (sources .entry)) (now (targets .entry)) (now (kinds .entry)) mask) (columns (now (label .entry)) (now (rank .entry)) (now («in_edge» .entry)) (now («in_distance» .entry)) (now («out_edge» .entry)) (now («out_distance» .entry)))) ⌝ }
 {
     let mut v = 0;
     while v < n {
@@ -55,6 +66,8 @@ fn judge(
             n,
             sources,
             targets,
+            kinds,
+            mask,
             label,
             rank,
             in_edge,
@@ -68,14 +81,15 @@ fn judge(
         }
         v += 1;
     }
-    judge_edges(n, sources, targets, label, rank)
+    judge_edges(n, sources, targets, kinds, mask, label, rank)
 }
 
-// The first of 1 to 5 that applies, else 0.
+// The first of 1, 2, 21, 3, 4, 22, 5 that applies, else 0, whatever the mask.
 pub fn refusal(
     n: usize,
     sources: &[u32],
     targets: &[u32],
+    kinds: &[u8],
     label: &[u32],
     rank: &[u32],
     in_edge: &[u32],
@@ -83,9 +97,9 @@ pub fn refusal(
     out_edge: &[u32],
     out_distance: &[u32],
 ) -> u32
-    ensures { λ r. ⌜ r ≡ checkerRefusal (call n (now (sources .entry)) (now (targets .entry)) (now (label .entry)) (now (rank .entry)) (now («in_edge» .entry)) (now («in_distance» .entry)) (now («out_edge» .entry)) (now («out_distance» .entry))) ⌝ }
+    ensures { λ r. ⌜ ((mask : ℕ) → r ≡ checkerRefusal (call n (now (sources .entry)) (now (targets .entry)) (now (kinds .entry)) mask (now (label .entry)) (now (rank .entry)) (now («in_edge» .entry)) (now («in_distance» .entry)) (now («out_edge» .entry)) (now («out_distance» .entry)))) ⌝ }
 {
-    let k = table::check(n, sources, targets);
+    let k = table::check(n, sources, targets, kinds);
     if k != 0 {
         return k;
     }
@@ -115,6 +129,8 @@ pub fn check(
     n: usize,
     sources: &[u32],
     targets: &[u32],
+    kinds: &[u8],
+    mask: u8,
     label: &[u32],
     rank: &[u32],
     in_edge: &[u32],
@@ -122,12 +138,13 @@ pub fn check(
     out_edge: &[u32],
     out_distance: &[u32],
 ) -> Verdict
-    ensures { λ r. ⌜ Promise (call n (now (sources .entry)) (now (targets .entry)) (now (label .entry)) (now (rank .entry)) (now («in_edge» .entry)) (now («in_distance» .entry)) (now («out_edge» .entry)) (now («out_distance» .entry))) r ⌝ }
+    ensures { λ r. ⌜ Promise (call n (now (sources .entry)) (now (targets .entry)) (now (kinds .entry)) mask (now (label .entry)) (now (rank .entry)) (now («in_edge» .entry)) (now («in_distance» .entry)) (now («out_edge» .entry)) (now («out_distance» .entry))) r ⌝ }
 {
     let k = refusal(
         n,
         sources,
         targets,
+        kinds,
         label,
         rank,
         in_edge,
@@ -142,6 +159,8 @@ pub fn check(
         n,
         sources,
         targets,
+        kinds,
+        mask,
         label,
         rank,
         in_edge,

@@ -4,7 +4,7 @@ use Prim.Native.Nat.{ℕ, _≤_, _<_, _-_}
 use native.Mathlib.Omega.{arith}
 use lib.Dec.{eqb}
 use borrow.Author.Needs.{needs}
-use Rattle.graph.specs.Graph.{graph}
+use Rattle.graph.specs.Graph.{table}
 use Rattle.graph.specs.Checker.{check5, fault}
 use Rattle.checker.specs.Contract.{columns}
 use Rattle.checker.specs.Promise.{edgeVerdict}
@@ -13,10 +13,10 @@ use Rattle.checker.proofs.judge.Statement.{statement}
 use Rattle.checker.proofs.judge.Tie as tie
 
 abbrev Inv-loop : tie.InvT-loop
-Inv-loop n sources targets label rank in-edge in-distance out-edge out-distance v₀ v = (v ≤ n) × ((j : ℕ) → j < v → not (eqb (fault (graph n sources targets) (columns label rank in-edge in-distance out-edge out-distance) j) 0) ≡ false)
+Inv-loop n sources targets kinds mask label rank in-edge in-distance out-edge out-distance v₀ v = (v ≤ n) × ((j : ℕ) → j < v → not (eqb (fault (table n sources targets kinds mask) (columns label rank in-edge in-distance out-edge out-distance) j) 0) ≡ false)
 
 abbrev μ-loop : tie.MeasureT-loop
-μ-loop n sources targets label rank in-edge in-distance out-edge out-distance v₀ v = n - v
+μ-loop n sources targets kinds mask label rank in-edge in-distance out-edge out-distance v₀ v = n - v
 
 loop-holds : tie.Need-loop-holds Inv-loop μ-loop
 loop-holds c = (omega arith, λ j h. absurd (omega arith))

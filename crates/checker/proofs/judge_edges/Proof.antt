@@ -4,7 +4,7 @@ use Prim.Native.Nat.{ℕ, _≤_, _<_, _-_}
 use native.Mathlib.Omega.{arith}
 use lib.ListN.{length}
 use borrow.Author.Needs.{needs}
-use Rattle.graph.specs.Graph.{graph}
+use Rattle.graph.specs.Graph.{table}
 use Rattle.graph.specs.Checker.{check5}
 use Rattle.checker.specs.Contract.{labelAndRank}
 use Rattle.checker.proofs.Laws.{edge-ask, edge-failed, edge-passed, edges-pass}
@@ -12,10 +12,10 @@ use Rattle.checker.proofs.judge_edges.Statement.{statement}
 use Rattle.checker.proofs.judge_edges.Tie as tie
 
 abbrev Inv-loop : tie.InvT-loop
-Inv-loop n sources targets label rank e₀ e = (e ≤ length sources) × ((j : ℕ) → j < e → not (check5 (graph n sources targets) (labelAndRank label rank) j) ≡ false)
+Inv-loop n sources targets kinds mask label rank e₀ e = (e ≤ length sources) × ((j : ℕ) → j < e → not (check5 (table n sources targets kinds mask) (labelAndRank label rank) j) ≡ false)
 
 abbrev μ-loop : tie.MeasureT-loop
-μ-loop n sources targets label rank e₀ e = length sources - e
+μ-loop n sources targets kinds mask label rank e₀ e = length sources - e
 
 loop-holds : tie.Need-loop-holds Inv-loop μ-loop
 loop-holds c = (omega arith, λ j h. absurd (omega arith))

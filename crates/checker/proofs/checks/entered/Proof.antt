@@ -5,14 +5,14 @@ use Rattle.graph.specs.Checker.{check3, entry}
 use Rattle.checker.proofs.checks.entered.Statement.{statement}
 use Rattle.checker.proofs.checks.entered.Tie as tie
 
-abbrev start : tie.After-shared-slice-known4 → tie.Start
-start c = c .before .before .before .before
+abbrev start : tie.After-shared-slice-known5 → tie.Start
+start c = let at-targets = c .before .before .before in at-targets .before .before
 
 cast-l : tie.Need-cast-l
-cast-l c = omega (arith, c .shared-slice-known6 .given (start (c .before .before) .args .v))
+cast-l c = omega (arith, c .shared-slice-known7 .given (start (c .before .before) .args .v))
 
 cast-e : tie.Need-cast-e
-cast-e c = omega (arith, c .shared-slice-known7 .given (start (c .before .before .before .before) .args .v))
+cast-e c = let at-label = c .before .before in omega (arith, c .shared-slice-known8 .given (start (at-label .before .before) .args .v))
 
 returns : tie.Need-returns
 unfolding check3
