@@ -4,78 +4,78 @@ use native.Mathlib.Omega.{arith}
 use native.Mathlib.Decide.{ℕ-discrete}
 use mathlib.Core.Path.{_≡_, refl, sym, ap, _∙_}
 use mathlib.Core.Logic.{inl, inr, ⊎-elim, by-cases}
-use mathlib.Core.Bool.{false, not, _&&_}
+use mathlib.Core.Bool.{false, cond, _&&_}
 use mathlib.Core.List.{List}
-use lib.ListN.{length, getD, set, take}
+use lib.ListN.{getD, set, take}
 use lib.Seq.{getD-set-same, getD-set-other, getD-take, length-take-le}
 use lib.Dec.{eqb}
 use mir.Syntax.{w32}
 use mir.Val.{Fits}
 use borrow.Author.Tests.{eq-eqb, ne-eqb}
-use Rattle.graph.specs.Graph.{Graph, graph, edges, to}
+use Rattle.graph.specs.Graph.{Graph, edges, from, to}
 use Rattle.graph.specs.Numbers.{many}
 use Rattle.memory.specs.Memory.{Framed, region, Holds, Filled}
 use Rattle.memory.proofs.Memory.{framed-none, framed-more, set-framed}
 use Rattle.graph.proofs.Counts.{many-le}
 use Rattle.graph.proofs.Ranges.{many-ext, many-next}
-use Rattle.graph.proofs.Tests.{length-table}
+use Rattle.graph.proofs.Tests.{length-each}
 use Rattle.memory.specs.Writer.{queueAt, inEdges, ranksAt, countsAt}
 use Rattle.index.specs.Index.{numbered}
 use Rattle.index.specs.Build.{One, OneAsk, RenumberAsk}
 use Rattle.index.proofs.Asks.{valid-column}
 use Rattle.index.proofs.Counts.{start-all}
 use Rattle.index.proofs.Moved.{held-kept}
-use Rattle.ranks.specs.Ranks.{lead, awaited}
+use Rattle.ranks.specs.Ranks.{leadOf, awaited}
 use Rattle.ranks.specs.Peel.{Ground, LeadAsk, Led, Counted, FreeAsk, Freed, FreesAsk, Frees, Peels, RanksAsk, Ranking, PeelAsk, AfterPeel, Ranked}
-use Rattle.ranks.proofs.Leads.{lead-same}
+use Rattle.ranks.proofs.Leads.{lead-same, lead-test}
 use Rattle.ranks.proofs.Settling.{ground-kept, lead-ask, ranking-more}
 
--- the leads of the first e edges are counted
-pub record Tallied (L : ℕ → ℕ) (c n e : ℕ) (w₀ w : List ℕ) : Type 0 where
-  pub framed : Framed c (c + (n + 1)) w₀ w
-  pub each : (v : ℕ) → v < n + 1 → getD w (c + v) 0 ≡ many (λ x. eqb (L x) v && not false) e
+-- Of the first e edges each that counts is counted at the vertex its ends name.
+pub record Tallied (g : Graph) (lab : List ℕ) (b e : ℕ) (w₀ w : List ℕ) : Type 0 where
+  pub framed : Framed (countsAt (g .n) b) (countsAt (g .n) b + (g .n + 1)) w₀ w
+  pub each : (v : ℕ) → v < g .n + 1
+      → region (countsAt (g .n) b) w v ≡ many (λ x. eqb (leadOf (g .n) lab (region (inEdges (g .n) b) w₀) (from g x) (to g x) x) v && g .counted x) e
 
-module _ {n : ℕ} {sources targets lab : List ℕ} {b e : ℕ} {w : List ℕ} (a : Ground (graph n sources targets) lab b w) where
-  pub tally-ask : e < length sources → LeadAsk n lab b (getD sources e 0) (getD targets e 0) w
-  tally-ask m = lead-ask a (getD sources e 0) e (a .valid .from-low e m) m
+module _ {g : Graph} {lab : List ℕ} {b : ℕ} {w : List ℕ} (a : Ground g lab b w) where
+  pub tally-ask : {e : ℕ} → e < edges g → LeadAsk (g .n) lab b (from g e) (to g e) w
+  tally-ask {e} m = lead-ask a (from g e) e (a .valid .from-low e m) m
 
-  module _ {w₀ : List ℕ} (x : Tallied (lead (graph n sources targets) lab (region (inEdges n b) w₀)) (countsAt n b) n e w₀ w)
-      {t : ℕ} (led : Led n lab (region (inEdges n b) w) (getD sources e 0) (getD targets e 0) e t) (m : e < length sources) where
+  module _ {e : ℕ} {w₀ : List ℕ} (x : Tallied g lab b e w₀ w) {t : ℕ} (led : Led (g .n) lab (region (inEdges (g .n) b) w) (from g e) (to g e) e t) (m : e < edges g) where
     abbrev L : ℕ → ℕ
-    L = lead (graph n sources targets) lab (region (inEdges n b) w₀)
+    L x = leadOf (g .n) lab (region (inEdges (g .n) b) w₀) (from g x) (to g x) x
 
-    pub tally-fits : Fits w32 (getD w (countsAt n b + t) 0 + 1)
-    tally-fits = record { fits = omega (arith, x .each t (omega (arith, led .low)), many-le (λ x. eqb (L x) t && not false) e, a .few) }
+    pub tally-fits : {r : ℕ} → r ≤ 1 → Fits w32 (getD w (countsAt (g .n) b + t) 0 + r)
+    tally-fits one = record { fits = omega (arith, x .each t (omega (arith, led .low)), many-le (λ x. eqb (L x) t && g .counted x) e, a .few) }
 
     leads : t ≡ L e
-    unfolding lead
-    leads = led .is ∙ lead-same (graph n sources targets) lab (region (inEdges n b) w) (region (inEdges n b) w₀) e (x .framed .low (inEdges n b + getD targets e 0) (omega (arith, a .valid .to-low e m)))
+    leads = led .is ∙ rw (x .framed .low (inEdges (g .n) b + to g e) (omega (arith, a .valid .to-low e m)))
 
-    pub tally-step : Tallied (lead (graph n sources targets) lab (region (inEdges n b) w₀)) (countsAt n b) n (e + 1) w₀ (set w (countsAt n b + t) (getD w (countsAt n b + t) 0 + 1))
-    tally-step =
-        let c : ℕ = countsAt n b in
-        let l : t < n + 1 = omega (arith, led .low) in
+    pub tally-step : {r : ℕ} → r ≡ cond (g .counted e) 1 0 → Tallied g lab b (e + 1) w₀ (set w (countsAt (g .n) b + t) (getD w (countsAt (g .n) b + t) 0 + r))
+    tally-step {r} adds =
+        let c : ℕ = countsAt (g .n) b in
+        let l : t < g .n + 1 = omega (arith, led .low) in
         record {
-          framed = framed-more (x .framed) (set-framed w c (c + (n + 1)) (c + t) (getD w (c + t) 0 + 1) (omega arith) (omega arith));
-          each = λ v m. rw (many-next (λ x. eqb (L x) v && not false) e) (by-cases (ℕ-discrete v t)
-              (λ z. rw (eq-eqb (L e) v (sym leads ∙ sym z), z, getD-set-same w (c + t) (getD w (c + t) 0 + 1) 0 (omega (arith, a .fits))) (omega (arith, x .each t l)))
-              (λ o. rw (ne-eqb (L e) v (λ y. o (sym y ∙ sym leads)), getD-set-other w (c + t) (c + v) (getD w (c + t) 0 + 1) 0 (λ z. o (omega arith)), x .each v m) (omega arith)));
+          framed = framed-more (x .framed) (set-framed w c (c + (g .n + 1)) (c + t) (getD w (c + t) 0 + r) (omega arith) (omega arith));
+          each = λ v m. rw (many-next (λ x. eqb (L x) v && g .counted x) e) (by-cases (ℕ-discrete v t)
+              (λ z. rw (eq-eqb (L e) v (sym leads ∙ sym z), z, getD-set-same w (c + t) (getD w (c + t) 0 + r) 0 (omega (arith, a .fits))) (omega (arith, x .each t l)))
+              (λ o. rw (ne-eqb (L e) v (λ y. o (sym y ∙ sym leads)), getD-set-other w (c + t) (c + v) (getD w (c + t) 0 + r) 0 (λ z. o (omega arith)), x .each v m) (omega arith)));
         }
 
-pub tally-none : {L : ℕ → ℕ} {c n : ℕ} {w w₀ : List ℕ} → Filled c (n + 1) 0 w w₀ → Tallied L c n 0 w₀ w₀
+pub tally-none : {g : Graph} {lab : List ℕ} {b : ℕ} {w w₀ : List ℕ} → Filled (countsAt (g .n) b) (g .n + 1) 0 w w₀ → Tallied g lab b 0 w₀ w₀
 unfolding many
 tally-none {w₀ = w₀} f = record { framed = framed-none _ _ w₀; each = f .each }
 
--- the counts of all leads are what is awaited
+-- what is counted of all edges is what is awaited
 pub tally-all : {g : Graph} {lab : List ℕ} {b e : ℕ} {w w₀ w₁ : List ℕ} → Filled (countsAt (g .n) b) (g .n + 1) 0 w w₀ → Ground g lab b w₁ → e ≤ edges g → edges g ≤ e
-    → Tallied (lead g lab (region (inEdges (g .n) b) w₀)) (countsAt (g .n) b) (g .n) e w₀ w₁ → Counted g lab b w w₁
+    → Tallied g lab b e w₀ w₁ → Counted g lab b w w₁
 unfolding awaited
 tally-all {g} {lab} {b} {e} {w₀ = w₀} f a l h x =
     let q : e ≡ edges g = omega arith in
     record {
       framed = framed-more (f .framed) (x .framed);
       counts = λ inEdge k v m. (rw q at (x .each v (omega arith))) ∙ many-ext _ _ (edges g) (λ i j.
-          rw (lead-same g lab (region (inEdges (g .n) b) w₀) inEdge i (f .framed .low (inEdges (g .n) b + to g i) (omega (arith, a .valid .to-low i j)) ∙ k (to g i) (a .valid .to-low i j))));
+          lead-test g lab (region (inEdges (g .n) b) w₀) i v m
+          ∙ rw (lead-same g lab (region (inEdges (g .n) b) w₀) inEdge i (f .framed .low (inEdges (g .n) b + to g i) (omega (arith, a .valid .to-low i j)) ∙ k (to g i) (a .valid .to-low i j))));
     }
 
 pub frees-ask : {g : Graph} {lab : List ℕ} {b : ℕ} {w w′ : List ℕ} → Ground g lab b w → Counted g lab b w w′ → FreesAsk (g .n) b w′
@@ -138,22 +138,23 @@ module _ {n b : ℕ} {w₀ : List ℕ} (a : FreesAsk n b w₀) where
         before i l = getD-set-other w (queueAt n b + k) (queueAt n b + i) v 0 (λ y. omega arith)
 
 -- there is room for the edge numbers
-pub numbers-ask : {g : Graph} {lab : List ℕ} {b : ℕ} {w : List ℕ} → RanksAsk g lab b w → OneAsk (numbered g) w
+pub numbers-ask : {g : Graph} {kinds lab : List ℕ} {b : ℕ} {w : List ℕ} → RanksAsk g kinds lab b w → OneAsk (numbered g) kinds w
 numbers-ask {g} a = record {
+  kinded = a .kinded;
   column = valid-column (a .ground .valid) (a .ground .small) (a .ground .few);
-  even = length-table (edges g) (λ (e : ℕ). e);
+  even = length-each (edges g) (λ (e : ℕ). e);
   room = omega (arith, a .below, a .ground .fits);
 }
 
 -- and the offsets stand already
-pub renumber-ask : {g : Graph} {lab : List ℕ} {b : ℕ} {w : List ℕ} → RanksAsk g lab b w → RenumberAsk (numbered g) (take (g .n + 1 + edges g) w)
+pub renumber-ask : {g : Graph} {kinds lab : List ℕ} {b : ℕ} {w : List ℕ} → RanksAsk g kinds lab b w → RenumberAsk (numbered g) kinds (take (g .n + 1 + edges g) w)
 renumber-ask {g} {w = w} a = let o = numbers-ask a in record {
-  ask = record { column = o .column; even = o .even; long = length-take-le (g .n + 1 + edges g) w (o .room) };
+  ask = record { kinded = o .kinded; column = o .column; even = o .even; long = length-take-le (g .n + 1 + edges g) w (o .room) };
   offs = λ v l. getD-take (g .n + 1 + edges g) w v 0 (omega arith) ∙ ap (λ (j : ℕ). getD w j 0) (omega arith) ∙ a .index .offs v l;
 }
 
 -- The edge numbers, the counts, an empty set of edges gone, and the queue: peeling may begin.
-module _ {g : Graph} {lab : List ℕ} {b : ℕ} {w w₀ w₁ w₂ w₃ : List ℕ} {k : ℕ} (a : RanksAsk g lab b w) (x : One (numbered g) w w₀)
+module _ {g : Graph} {kinds lab : List ℕ} {b : ℕ} {w w₀ w₁ w₂ w₃ : List ℕ} {k : ℕ} (a : RanksAsk g kinds lab b w) (x : One (numbered g) w w₀)
     (f : Filled (ranksAt (g .n) b) (g .n) 0 w₀ w₁) (c : Counted g lab b w₁ w₂) (q : Frees (g .n) b (g .n) w₂ w₃ k) where
   behind : (j : ℕ) → g .n + 1 + edges g ≤ j → getD w₀ j 0 ≡ getD w j 0
   behind j l = x .rest j (omega (arith, start-all (g .counted) (g .src) (edges g) (g .n)))
@@ -192,7 +193,6 @@ module _ {g : Graph} {lab : List ℕ} {b : ℕ} {w w₀ w₁ w₂ w₃ : List �
     begin =
         record {
           ground = ground-kept (a .ground) (begin-frame .long ∙ x .long);
-          counts = a .counts;
           index = held-kept (numbered g) 0 w₀ w₃ (λ j l m. begin-frame .low j (omega (arith, a .below))) (x .index);
           below = a .below;
           inEdge = inEdge;

@@ -8,7 +8,7 @@ use mathlib.Core.Bool.{Bool, false}
 use mathlib.Core.List.{List}
 use lib.ListN.{getD}
 use lib.Dec.{T}
-use Rattle.graph.specs.Graph.{Graph, edges}
+use Rattle.graph.specs.Graph.{Graph, IsEdge}
 use Rattle.memory.specs.Writer.{inEdges}
 use Rattle.ranks.specs.Ranks.{extend, extends}
 use Rattle.ranks.specs.Peel.{SettleAsk, AfterSettle, rowOf, ScanAsk, Scanned}
@@ -68,8 +68,8 @@ module _ {g : Graph} {lab : List ℕ} {b u k₀ : ℕ} {w₀ : List ℕ} (a : Sc
     read-edge : getD w (g .n + 1 + j) 0 ≡ getD w₀ (g .n + 1 + j) 0
     read-edge = x .onward .frame .low (g .n + 1 + j) (omega (arith, a .below))
 
-    edge-low : getD w (g .n + 1 + j) 0 < edges g
-    edge-low = rw read-edge (a .row j l h .0)
+    is-edge : IsEdge g (getD w (g .n + 1 + j) 0)
+    is-edge = rw read-edge (a .row j l h .0)
 
     pub scan-ask : SettleAsk g lab b u (getD w (g .n + 1 + j) 0) k w
     scan-ask =
@@ -85,8 +85,8 @@ module _ {g : Graph} {lab : List ℕ} {b u k₀ : ℕ} {w₀ : List ℕ} (a : Sc
                 peels = x .peels;
                 top-low = a .course .top-low;
               };
-          asks = lead-ask ground u (getD w (g .n + 1 + j) 0) (a .vertex) edge-low;
-          low = edge-low;
+          asks = lead-ask ground u (getD w (g .n + 1 + j) 0) (a .vertex) (is-edge .0);
+          edge = is-edge;
           leaves = rw read-edge (a .row j l h .1);
           fresh = rw read-edge (extends-fresh (a .course .done) row (j - s) (getD w₀ (g .n + 1 + j) 0) (a .row j l h .2) (λ i m q. omega (arith, a .rising (s + i) j (omega arith) (omega arith) h)));
           source = x .onward .still u (a .vertex) (a .source) .0;

@@ -13,6 +13,7 @@ use Rattle.memory.specs.Memory.{region, Raised}
 use Rattle.memory.specs.Writer.{queueAt, inEdges, ranksAt, countsAt}
 use Rattle.ranks.specs.Ranks.{lead, rise}
 use Rattle.ranks.specs.Peel.{Ground, Ranking, Risen, LeadAsk, Led, FreeAsk, Freed, SettleAsk, Onward, Settled}
+use Rattle.ranks.proofs.Leads.{lead-counted}
 use Rattle.ranks.proofs.Peeling.{goes-alone, waits-yet, goes, room-left}
 
 -- what is known of the table holds in any memory of that length
@@ -53,8 +54,7 @@ onward-more f h =
 module _ {n : ℕ} {y : Arrows} {lab : List ℕ} {b u e k t : ℕ} {w : List ℕ} (a : SettleAsk (on n y) lab b u e k w) (led : Led n lab (region (inEdges n b) w) u (to (on n y) e) e t) where
   -- what is told of the ends is told of the edge
   leads : lead (on n y) lab (a .course .inEdge) e ≡ t
-  unfolding lead
-  leads = rw (a .leaves, ← (a .course .holds (to (on n y) e) (a .asks .vertex))) (sym (led .is))
+  leads = lead-counted (on n y) lab (a .course .inEdge) e (a .edge .1) ∙ rw (a .leaves, ← (a .course .holds (to (on n y) e) (a .asks .vertex))) (sym (led .is))
 
   source : region (countsAt n b) w (from (on n y) e) ≡ 0
   source = rw (a .leaves) (a .source)
@@ -63,7 +63,7 @@ module _ {n : ℕ} {y : Arrows} {lab : List ℕ} {b u e k t : ℕ} {w : List ℕ
   settle-none z =
       record {
         onward = onward-none n b k w;
-        peels = goes-alone (a .ground .valid) lab (a .course .inEdge) (a .course .peels) e (a .low) (a .fresh) source (leads ∙ z);
+        peels = goes-alone (a .ground .valid) lab (a .course .inEdge) (a .course .peels) e (a .edge .0) (a .fresh) source (leads ∙ z);
       }
 
   module _ (some : t ≡ n → ⊥) where
@@ -71,10 +71,10 @@ module _ {n : ℕ} {y : Arrows} {lab : List ℕ} {b u e k t : ℕ} {w : List ℕ
     t-low = omega (arith, led .low)
 
     t-waits : region (countsAt n b) w t ≡ 0 → ⊥
-    t-waits = waits-yet (a .ground .valid) lab (a .course .inEdge) (a .course .peels) e (a .low) (a .fresh) source t leads t-low
+    t-waits = waits-yet (a .ground .valid) lab (a .course .inEdge) (a .course .peels) e (a .edge .0) (a .fresh) source t leads t-low
 
     queue-room : k < n
-    queue-room = room-left (a .ground .valid) lab (a .course .inEdge) (a .course .peels) e (a .low) (a .fresh) source t leads t-low
+    queue-room = room-left (a .ground .valid) lab (a .course .inEdge) (a .course .peels) e (a .edge .0) (a .fresh) source t leads t-low
 
     module _ {z : ℕ} {w₁ : List ℕ} (x : Raised (ranksAt n b + t) z w w₁) where
       else-one : (j : ℕ) → (j ≡ ranksAt n b + t → ⊥) → getD w₁ j 0 ≡ getD w j 0
@@ -163,7 +163,7 @@ module _ {n : ℕ} {y : Arrows} {lab : List ℕ} {b u e k t : ℕ} {w : List ℕ
                       still = λ v l z. let o : v ≡ t → ⊥ = λ q. t-waits (rw q at z) in (counts-else v l o ∙ z, ranks-else v l o);
                     };
                 peels =
-                    goes (a .ground .valid) lab (a .course .inEdge) (a .course .peels) e (a .low) (a .fresh) source t leads t-low
+                    goes (a .ground .valid) lab (a .course .inEdge) (a .course .peels) e (a .edge .0) (a .fresh) source t leads t-low
                     (region (countsAt n b) w′) (region (ranksAt n b) w′) (region (queueAt n b) w′) k′
                     at-count counts-else (omega (arith, at-rank, x .up)) (omega (arith, at-rank, x .over, sum)) either-rank ranks-else queue-front (push f)
                     (omega (arith, a .bound, risen .low, sum));

@@ -10,7 +10,7 @@ use mathlib.Core.List.{List}
 use lib.ListN.{getD}
 use lib.Dec.{T, eqb, eqb→eq, T-not}
 use borrow.Author.Tests.{eqb-true, eqb-false}
-use Rattle.graph.specs.Graph.{Graph, edges, from}
+use Rattle.graph.specs.Graph.{Graph, IsEdge, edges, from}
 use Rattle.graph.proofs.Tests.{and-split, no-T}
 use Rattle.graph.proofs.Counts.{many-le}
 use Rattle.index.specs.Index.{Adjacent, first, numbered}
@@ -22,6 +22,7 @@ use Rattle.memory.specs.Writer.{queueAt, inEdges, ranksAt, countsAt}
 use Rattle.ranks.specs.Ranks.{lead, rise, awaited, Peeling, extends, Peeled, Stuck}
 use Rattle.ranks.specs.Peel.{Ranking, rowOf, ScanAsk, AfterScan, PeelAsk, Taken, Ended}
 use Rattle.ranks.proofs.Counting.{many-all, many-short, many-some}
+use Rattle.ranks.proofs.Leads.{lead-counts}
 use Rattle.ranks.proofs.Settling.{ground-kept, ranking-more}
 use Rattle.ranks.proofs.Scanning.{extends-old, extends-new, extends-split}
 
@@ -72,8 +73,8 @@ module _ {g : Graph} {lab : List ℕ} {b k₀ : ℕ} {w₀ : List ℕ} (a : Peel
     row-last : getD w (u + 1) 0 ≡ first g (suc u)
     row-last = rw (add-one u) (index-now .offs (suc u) u-low)
 
-    row-at : (j : ℕ) → getD w u 0 ≤ j → j < getD w (u + 1) 0 → (getD w (g .n + 1 + j) 0 < edges g) × (from g (getD w (g .n + 1 + j) 0) ≡ u)
-    row-at j i m = let (e, q, _) = number-at g index-now u j (omega (arith, row-first)) (omega (arith, row-last)) in (e .0, q)
+    row-at : (j : ℕ) → getD w u 0 ≤ j → j < getD w (u + 1) 0 → IsEdge g (getD w (g .n + 1 + j) 0) × (from g (getD w (g .n + 1 + j) 0) ≡ u)
+    row-at j i m = let (e, q, _) = number-at g index-now u j (omega (arith, row-first)) (omega (arith, row-last)) in (e, q)
 
     fresh : (e : ℕ) → e < edges g → from g e ≡ u → x .done e ≡ false
     fresh e m q = no-T (x .done e) (λ t. let (i, j, y) = x .gone e m t in x .peels .once i h j l (y ∙ q))
@@ -94,7 +95,7 @@ module _ {g : Graph} {lab : List ℕ} {b k₀ : ℕ} {w₀ : List ℕ} (a : Peel
           order = omega (arith, row-first, row-last, start-mono (g .counted) (g .src) (edges g) u (suc u) (omega arith));
           below = omega (arith, row-last, start-all (g .counted) (g .src) (edges g) (suc u), a .below);
           vertex = u-low;
-          row = λ j i m. let (e, q) = row-at j i m in (e, q, fresh (getD w (g .n + 1 + j) 0) e q);
+          row = λ j i m. let (e, q) = row-at j i m in (e, q, fresh (getD w (g .n + 1 + j) 0) (e .0) q);
           rising = λ i j p q m. number-rises g index-now u i j (omega (arith, row-first)) q (omega (arith, row-last));
           source = x .peels .member h l .1;
           bound = omega (arith, x .peels .bounded u u-low);
@@ -122,11 +123,11 @@ module _ {g : Graph} {lab : List ℕ} {b k₀ : ℕ} {w₀ : List ℕ} (a : Peel
             let s : from g (row j) ≡ u = row-at (getD w u 0 + j) (omega arith) (omega arith) .1 in
             (h, omega arith, front h l ∙ sym (rw q at s))
 
-        sure : (e i : ℕ) → e < edges g → i < h + 1 → region (queueAt (g .n) b) w i ≡ from g e → Dec (i ≡ h) → T (extends (x .done) row (getD w (u + 1) 0 - getD w u 0) e)
+        sure : (e i : ℕ) → IsEdge g e → i < h + 1 → region (queueAt (g .n) b) w i ≡ from g e → Dec (i ≡ h) → T (extends (x .done) row (getD w (u + 1) 0 - getD w u 0) e)
         sure e i m j q (no o) = extends-old (x .done) row (getD w (u + 1) 0 - getD w u 0) e (x .all e i m (omega arith) q)
         sure e i m j q (yes y) =
             let s : from g e ≡ u = sym q ∙ ap (region (queueAt (g .n) b) w) y in
-            let (p, c, d, r) = number-found g index-now e (m, a .counts e) in
+            let (p, c, d, r) = number-found g index-now e m in
             let c′ : first g u ≤ p = rw s at c in
             let d′ : p < first g (suc u) = rw s at d in
             let c″ : getD w u 0 ≤ p = omega (arith, row-first) in
@@ -139,20 +140,20 @@ module _ {g : Graph} {lab : List ℕ} {b k₀ : ℕ} {w₀ : List ℕ} (a : Peel
   unfolding awaited
   take-end {h} {k} {w} x l = by-cases (ℕ-discrete k (g .n)) (λ q. inl (q, through q)) (λ o. inr (omega (arith, queue-few x), stopped (omega (arith, queue-few x))))
     where
-      all-done : (e : ℕ) → e < edges g → region (countsAt (g .n) b) w (from g e) ≡ 0 → T (x .done e)
-      all-done e m z = let (i, j, q) = x .peels .listed (from g e) (a .ground .valid .from-low e m) z in x .all e i m (omega arith) q
+      all-done : (e : ℕ) → IsEdge g e → region (countsAt (g .n) b) w (from g e) ≡ 0 → T (x .done e)
+      all-done e m z = let (i, j, q) = x .peels .listed (from g e) (a .ground .valid .from-low e (m .0)) z in x .all e i m (omega arith) q
 
       through : k ≡ g .n → Peeled g lab (a .inEdge) (region (ranksAt (g .n) b) w)
       through q =
           record {
-            raised = λ e m t. x .peels .raised e m (done-all e m) t;
+            raised = λ e m t. x .peels .raised e m (done-all e (m, lead-counts g lab (a .inEdge) e t)) t;
             attained = λ v m. wider v (x .peels .attained v m);
           }
         where
-          done-all : (e : ℕ) → e < edges g → T (x .done e)
+          done-all : (e : ℕ) → IsEdge g e → T (x .done e)
           done-all e m =
               all-done e m (eqb-true (region (countsAt (g .n) b) w (from g e)) 0
-              (many-all (λ v. eqb (region (countsAt (g .n) b) w v) 0) (g .n) (sym (x .peels .size) ∙ q) (from g e) (a .ground .valid .from-low e m)))
+              (many-all (λ v. eqb (region (countsAt (g .n) b) w v) 0) (g .n) (sym (x .peels .size) ∙ q) (from g e) (a .ground .valid .from-low e (m .0))))
 
           wider : (v : ℕ) → (region (ranksAt (g .n) b) w v ≡ 0)
               ⊎ ((e : ℕ) × (e < edges g) × T (x .done e) × (lead g lab (a .inEdge) e ≡ v) × (region (ranksAt (g .n) b) w v ≡ region (ranksAt (g .n) b) w (from g e) + rise g lab e))
@@ -169,5 +170,6 @@ module _ {g : Graph} {lab : List ℕ} {b k₀ : ℕ} {w₀ : List ℕ} (a : Peel
             waits = λ v s o.
                 let (e, i, z) = many-some (λ e. eqb (lead g lab (a .inEdge) e) v && not (x .done e)) (edges g) (λ y. o (x .peels .counts v s ∙ y)) in
                 let (p, r) = and-split (eqb (lead g lab (a .inEdge) e) v) (not (x .done e)) (rw z tt) in
-                (e, i, eqb→eq (lead g lab (a .inEdge) e) v p, λ y. T-not (x .done e) r (all-done e i y));
+                let t : lead g lab (a .inEdge) e ≡ v = eqb→eq (lead g lab (a .inEdge) e) v p in
+                (e, i, t, λ y. T-not (x .done e) r (all-done e (i, lead-counts g lab (a .inEdge) e (omega arith)) y));
           }

@@ -8,7 +8,7 @@ use lib.ListN.{length, getD, set}
 use lib.Dec.{T, eqb}
 use Rattle.graph.specs.Numbers.{many}
 use Rattle.memory.specs.Memory.{Framed, region, Holds}
-use Rattle.graph.specs.Graph.{Graph, Valid, edges, from, to}
+use Rattle.graph.specs.Graph.{Graph, Kinds, Valid, IsEdge, edges, from, to}
 use Rattle.graph.specs.Arrows.{Arrows, on}
 use Rattle.graph.specs.Limits.{mostVertices, mostEdges}
 use Rattle.graph.specs.Checker.{at}
@@ -41,7 +41,7 @@ pub record LeadAsk (n : ℕ) (lab : List ℕ) (b u v : ℕ) (w : List ℕ) : Typ
   pub low : at lab v < n
   pub fits : b + 7 * n + 1 ≤ length w
 
--- the vertex that waits for edge e from u to v, n if none does
+-- the vertex that waits for edge e from u to v if it counts, n if none does
 pub record Led (n : ℕ) (lab : List ℕ) (inEdge : ℕ → ℕ) (u v e r : ℕ) : Type 0 where
   pub is : r ≡ leadOf n lab inEdge u v e
   pub low : r ≤ n
@@ -78,12 +78,12 @@ pub record Course (g : Graph) (lab : List ℕ) (b k : ℕ) (w : List ℕ) : Type
   pub peels : Peels g lab inEdge done b w k top
   pub top-low : top ≤ g .n
 
--- edge e leaves u, and has not gone; u waits for nothing
+-- edge e counts, leaves u, and has not gone; u waits for nothing
 pub record SettleAsk (g : Graph) (lab : List ℕ) (b u e k : ℕ) (w : List ℕ) : Type 0 where
   pub ground : Ground g lab b w
   pub course : Course g lab b k w
   pub asks : LeadAsk (g .n) lab b u (to g e) w
-  pub low : e < edges g
+  pub edge : IsEdge g e
   pub leaves : from g e ≡ u
   pub fresh : course .done e ≡ false
   pub source : region (countsAt (g .n) b) w u ≡ 0
@@ -108,7 +108,7 @@ AfterSettle g lab b u e k w w' k' = (a : SettleAsk g lab b u e k w) → Settled 
 abbrev pub rowOf : ℕ → ℕ → List ℕ → ℕ → ℕ
 rowOf n u w i = getD w (n + 1 + (getD w u 0 + i)) 0
 
--- the edges of the row leave u, which waits for nothing; they are in order, and none has gone
+-- the edges of the row count and leave u, which waits for nothing; they are in order, and none has gone
 pub record ScanAsk (g : Graph) (lab : List ℕ) (b u k : ℕ) (w : List ℕ) : Type 0 where
   pub ground : Ground g lab b w
   pub course : Course g lab b k w
@@ -116,7 +116,7 @@ pub record ScanAsk (g : Graph) (lab : List ℕ) (b u k : ℕ) (w : List ℕ) : T
   pub below : g .n + 1 + getD w (u + 1) 0 ≤ b
   pub vertex : u < g .n
   pub row : (j : ℕ) → getD w u 0 ≤ j → j < getD w (u + 1) 0
-      → (getD w (g .n + 1 + j) 0 < edges g) × (from g (getD w (g .n + 1 + j) 0) ≡ u) × (course .done (getD w (g .n + 1 + j) 0) ≡ false)
+      → IsEdge g (getD w (g .n + 1 + j) 0) × (from g (getD w (g .n + 1 + j) 0) ≡ u) × (course .done (getD w (g .n + 1 + j) 0) ≡ false)
   pub rising : (i j : ℕ) → getD w u 0 ≤ i → i < j → j < getD w (u + 1) 0 → getD w (g .n + 1 + i) 0 < getD w (g .n + 1 + j) 0
   pub source : region (countsAt (g .n) b) w u ≡ 0
   pub bound : region (ranksAt (g .n) b) w u < course .top
@@ -129,22 +129,21 @@ pub record Scanned (g : Graph) (lab : List ℕ) (b u j k : ℕ) (w w' : List ℕ
 abbrev pub AfterScan : Graph → List ℕ → (b u k : ℕ) → List ℕ → List ℕ → ℕ → Type 0
 AfterScan g lab b u k w w' k' = (a : ScanAsk g lab b u k w) → Scanned g lab b u (getD w (u + 1) 0) k w w' k' (a .course)
 
--- the front holds the edge numbers, and every edge counts; nothing has gone yet, and the queue holds what waits for nothing
+-- the front holds the numbers of counted edges; nothing has gone yet, and the queue holds what waits for nothing
 pub record PeelAsk (g : Graph) (lab : List ℕ) (b k : ℕ) (w : List ℕ) : Type 0 where
   pub ground : Ground g lab b w
-  pub counts : (e : ℕ) → T (g .counted e)
   pub index : Held (numbered g) 0 w
   pub below : g .n + 1 + edges g ≤ b
   pub inEdge : ℕ → ℕ
   pub holds : Holds (g .n) (inEdges (g .n) b) inEdge w
   pub peels : Peels g lab inEdge (λ x. false) b w k 0
 
--- the vertices at the first h places of the queue have been taken, with their edges
+-- the vertices at the first h places of the queue have been taken, with the counted edges that leave them
 pub record Taken (g : Graph) (lab : List ℕ) (b h : ℕ) (w : List ℕ) (k : ℕ) (inEdge : ℕ → ℕ) : Type 0 where
   pub done : ℕ → Bool
   pub peels : Peels g lab inEdge done b w k h
   pub gone : (e : ℕ) → e < edges g → T (done e) → (i : ℕ) × (i < h) × (region (queueAt (g .n) b) w i ≡ from g e)
-  pub all : (e i : ℕ) → e < edges g → i < h → region (queueAt (g .n) b) w i ≡ from g e → T (done e)
+  pub all : (e i : ℕ) → IsEdge g e → i < h → region (queueAt (g .n) b) w i ≡ from g e → T (done e)
 
 -- all have gone, or some stay
 abbrev pub Ended : Graph → List ℕ → ℕ → List ℕ → ℕ → (ℕ → ℕ) → Type 0
@@ -154,6 +153,11 @@ Ended g lab b w' k' inEdge =
 pub record AfterPeel (g : Graph) (lab : List ℕ) (b k : ℕ) (w w' : List ℕ) (k' : ℕ) : Type 0 where
   pub frame : Ranking (g .n) b w w'
   pub ended : (a : PeelAsk g lab b k w) → Ended g lab b w' k' (a .inEdge)
+
+-- the table with its labels, and a kind for each edge
+pub record CountsAsk (g : Graph) (kinds lab : List ℕ) (b : ℕ) (w : List ℕ) : Type 0 where
+  pub ground : Ground g lab b w
+  pub kinded : Kinds (edges g) kinds
 
 -- the counts are what each vertex waits for, before any edge has gone
 pub record Counted (g : Graph) (lab : List ℕ) (b : ℕ) (w w' : List ℕ) : Type 0 where
@@ -183,10 +187,10 @@ pub record Frees (n b e : ℕ) (w w' : List ℕ) (k : ℕ) : Type 0 where
   pub listed : (v : ℕ) → v < e → region (countsAt n b) w v ≡ 0 → (i : ℕ) × (i < k) × (region (queueAt n b) w' i ≡ v)
   pub once : (i j : ℕ) → i < j → j < k → region (queueAt n b) w' i ≡ region (queueAt n b) w' j → ⊥
 
--- every edge counts, and the front holds the neighbours, whose place the edge numbers take
-pub record RanksAsk (g : Graph) (lab : List ℕ) (b : ℕ) (w : List ℕ) : Type 0 where
+-- the front holds the neighbours, whose place the edge numbers take
+pub record RanksAsk (g : Graph) (kinds lab : List ℕ) (b : ℕ) (w : List ℕ) : Type 0 where
   pub ground : Ground g lab b w
-  pub counts : (e : ℕ) → T (g .counted e)
+  pub kinded : Kinds (edges g) kinds
   pub index : Held g 0 w
   pub below : g .n + 1 + edges g ≤ b
 

@@ -1,21 +1,21 @@
--- Ranks by peeling. A vertex that is its own label waits for the edges that enter its class, any other for its in-edge.
+-- Ranks by peeling. A vertex that is its own label waits for the counted edges that enter its class, any other for its in-edge.
 use Prim.Native.Nat.{ℕ, zero, suc, _+_, _≤_, _<_}
 use mathlib.Core.Path.{_≡_}
 use mathlib.Core.Bool.{Bool, cond, not, _||_, _&&_}
 use mathlib.Core.List.{List}
 use mathlib.Core.Logic.{_⊎_}
 use lib.Dec.{T, eqb}
-use Rattle.graph.specs.Graph.{Graph, edges, from, to}
+use Rattle.graph.specs.Graph.{Graph, IsEdge, edges, from, to}
 use Rattle.graph.specs.Numbers.{many}
 use Rattle.graph.specs.Checker.{at}
 
--- of n vertices the one that waits for edge e from u to v, n if none does
+-- of n vertices the one that waits for edge e from u to v if it counts, n if none does
 abbrev pub leadOf : ℕ → List ℕ → (ℕ → ℕ) → (u v e : ℕ) → ℕ
 leadOf n lab inEdge u v e = cond (eqb (at lab u) (at lab v)) (cond (eqb (inEdge v) e) v n) (at lab v)
 
--- the vertex that waits for edge e of g
+-- the vertex that waits for edge e of g, n if none does: none waits for an edge that does not count
 unfoldable pub lead : Graph → List ℕ → (ℕ → ℕ) → ℕ → ℕ
-lead g lab inEdge e = leadOf (g .n) lab inEdge (from g e) (to g e) e
+lead g lab inEdge e = cond (g .counted e) (leadOf (g .n) lab inEdge (from g e) (to g e) e) (g .n)
 
 -- by how much an edge from u to v raises the rank
 abbrev pub riseOf : List ℕ → (u v : ℕ) → ℕ
@@ -62,9 +62,9 @@ pub record Stuck (g : Graph) (lab : List ℕ) (inEdge count : ℕ → ℕ) : Typ
   pub stays : (v : ℕ) × (v < g .n) × (count v ≡ 0 → ⊥)
   pub waits : (v : ℕ) → v < g .n → (count v ≡ 0 → ⊥) → (e : ℕ) × (e < edges g) × (lead g lab inEdge e ≡ v) × (count (from g e) ≡ 0 → ⊥)
 
--- the ranks of a column of labels: one rank a class, greater where the label changes, and each reached
+-- the ranks of a column of labels: one rank a class, greater where a counted edge changes the label, and each reached
 pub record Ranks (g : Graph) (lab : List ℕ) (rank : ℕ → ℕ) : Type 0 where
   pub same : (v : ℕ) → v < g .n → rank v ≡ rank (at lab v)
-  pub grows : (e : ℕ) → e < edges g → (at lab (from g e) ≡ at lab (to g e) → ⊥) → rank (from g e) < rank (to g e)
+  pub grows : (e : ℕ) → IsEdge g e → (at lab (from g e) ≡ at lab (to g e) → ⊥) → rank (from g e) < rank (to g e)
   pub attained : (v : ℕ) → v < g .n → (rank v ≡ 0)
-      ⊎ ((e : ℕ) × (e < edges g) × (at lab (from g e) ≡ at lab (to g e) → ⊥) × (at lab (to g e) ≡ at lab v) × (rank v ≡ rank (from g e) + 1))
+      ⊎ ((e : ℕ) × IsEdge g e × (at lab (from g e) ≡ at lab (to g e) → ⊥) × (at lab (to g e) ≡ at lab v) × (rank v ≡ rank (from g e) + 1))

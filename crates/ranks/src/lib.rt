@@ -1,15 +1,16 @@
 // Ranks by peeling: a vertex goes when no edge that it waits for is left.
-ghost use Rattle.graph.specs.Graph.{graph};
+ghost use Rattle.graph.specs.Graph.{table};
 ghost use Rattle.memory.specs.Memory.{region};
 ghost use Rattle.memory.specs.Writer.{inEdges};
-ghost use Rattle.ranks.specs.Peel.{Ground, Counted, FreeAsk, Freed, FreesAsk, Frees, RanksAsk, Ranked, RiseAsk, Risen, LeadAsk, Led, SomeInto, EveryInto, SettleAsk, AfterSettle, ScanAsk, AfterScan, PeelAsk, AfterPeel};
+ghost use Rattle.ranks.specs.Peel.{CountsAsk, Counted, FreeAsk, Freed, FreesAsk, Frees, RanksAsk, Ranked, RiseAsk, Risen, LeadAsk, Led, SomeInto, EveryInto, SettleAsk, AfterSettle, ScanAsk, AfterScan, PeelAsk, AfterPeel};
+use graph::table;
 use index::build;
 use memory::writer::COUNTS;
 use memory::writer::IN_EDGES;
 use memory::writer::QUEUE;
 use memory::writer::RANKS;
 
-// The vertex that waits for edge e from u to v, n if none does.
+// The vertex that waits for edge e from u to v if it counts, n if none does.
 fn lead(n: usize, label: &[u32], w: &[u32], b: usize, u: usize, v: usize, e: usize) -> usize
     requires { ⌜ LeadAsk n (now label) b u v (now w) ⌝ }
     ensures { λ r. ⌜ Led n (now (label .entry)) (region (inEdges n b) (now (w .entry))) u v e r ⌝ }
@@ -24,10 +25,19 @@ fn lead(n: usize, label: &[u32], w: &[u32], b: usize, u: usize, v: usize, e: usi
     n
 }
 
-// How many edges each vertex waits for; place n has those that no vertex waits for.
-fn counts(n: usize, sources: &[u32], targets: &[u32], label: &[u32], w: &mut [u32], b: usize)
-    requires { ⌜ Ground (graph n (now sources) (now targets)) (now label) b (now w) ⌝ }
-    ensures { λ _. ⌜ Counted (graph n (now (sources .entry)) (now (targets .entry))) (now (label .entry)) b (now (w .entry)) (now (w .exit)) ⌝ }
+// How many counted edges each vertex waits for; place n has those that no vertex waits for.
+fn counts(
+    n: usize,
+    sources: &[u32],
+    targets: &[u32],
+    kinds: &[u8],
+    mask: u8,
+    label: &[u32],
+    w: &mut [u32],
+    b: usize,
+)
+    requires { ⌜ CountsAsk (table n (now sources) (now targets) (now kinds) mask) (now kinds) (now label) b (now w) ⌝ }
+    ensures { λ _. ⌜ Counted (table n (now (sources .entry)) (now (targets .entry)) (now (kinds .entry)) mask) (now (label .entry)) b (now (w .entry)) (now (w .exit)) ⌝ }
 {
     memory::fill(w, b + COUNTS * n, n + 1, 0);
     let mut e = 0;
@@ -35,7 +45,8 @@ fn counts(n: usize, sources: &[u32], targets: &[u32], label: &[u32], w: &mut [u3
         let u = sources[e] as usize;
         let v = targets[e] as usize;
         let t = lead(n, label, w, b, u, v, e);
-        w[b + COUNTS * n + t] = w[b + COUNTS * n + t] + 1;
+        let c = table::counted(kinds, mask, e);
+        w[b + COUNTS * n + t] = w[b + COUNTS * n + t] + c;
         e += 1;
     }
 }
@@ -102,7 +113,7 @@ fn settle(
     free(n, w, b, t, k)
 }
 
-// The edges that leave u go; their numbers stand at the places w[u] .. w[u + 1] - 1.
+// The counted edges that leave u go; their numbers stand at the places w[u] .. w[u + 1] - 1.
 fn scan(
     n: usize,
     targets: &[u32],
@@ -126,7 +137,7 @@ fn scan(
     k
 }
 
-// The vertices of the queue are taken one after the other, with the edges that leave them. The queue's length.
+// The vertices of the queue are taken one after the other, with the counted edges that leave them. The queue's length.
 fn peel(n: usize, targets: &[u32], label: &[u32], w: &mut [u32], b: usize, k0: usize) -> usize
     requires { ⌜ SomeInto n (now targets) (λ g. PeelAsk g (now label) b k0 (now w)) ⌝ }
     ensures { λ k'. ⌜ EveryInto n (now (targets .entry)) (λ g. AfterPeel g (now (label .entry)) b k0 (now (w .entry)) (now (w .exit)) k') ⌝ }
@@ -146,17 +157,19 @@ pub fn ranks(
     n: usize,
     sources: &[u32],
     targets: &[u32],
+    kinds: &[u8],
+    mask: u8,
     label: &[u32],
     w: &mut [u32],
     b: usize,
 ) -> bool
-    requires { ⌜ RanksAsk (graph n (now sources) (now targets)) (now label) b (now w) ⌝ }
-    ensures { λ r. ⌜ Ranked (graph n (now (sources .entry)) (now (targets .entry))) (now (label .entry)) b (now (w .entry)) (now (w .exit)) r ⌝ }
+    requires { ⌜ RanksAsk (table n (now sources) (now targets) (now kinds) mask) (now kinds) (now label) b (now w) ⌝ }
+    ensures { λ r. ⌜ Ranked (table n (now (sources .entry)) (now (targets .entry)) (now (kinds .entry)) mask) (now (label .entry)) b (now (w .entry)) (now (w .exit)) r ⌝ }
 {
     let k = n + 1 + sources.len();
-    build::renumber(n, sources, &mut w[..k]);
+    build::renumber(n, sources, kinds, mask, &mut w[..k]);
     memory::fill(w, b + RANKS * n, n, 0);
-    counts(n, sources, targets, label, w, b);
+    counts(n, sources, targets, kinds, mask, label, w, b);
     let h = frees(n, w, b);
     let all = peel(n, targets, label, w, b, h);
     all == n

@@ -3,7 +3,7 @@ use mathlib.Core.List.{_++_}
 use Prim.Native.Nat.{_+_}
 use lib.ListN.{length, drop}
 use lib.Seq.{length-take-le}
-use Rattle.graph.specs.Graph.{Graph, graph}
+use Rattle.graph.specs.Graph.{Graph, table}
 use Rattle.graph.specs.Arrows.{arrows}
 use Rattle.index.specs.Index.{numbered}
 use Rattle.index.specs.Build.{One}
@@ -19,11 +19,11 @@ use Rattle.ranks.proofs.ranks.Statement.{statement}
 use Rattle.ranks.proofs.ranks.Tie as tie
 
 abbrev whole : tie.Start → Graph
-whole s = graph (s .args .n) (s .args .sources .now) (s .args .targets .now)
+whole s = table (s .args .n) (s .args .sources .now) (s .args .targets .now) (s .args .kinds .now) (s .args .mask)
 
 -- what is given, and the stages, each seen from the next
 abbrev given : tie.After-slice-known → tie.Start
-given c = c .before .before .before .before
+given c = let at-kinds = c .before .before in at-kinds .before .before .before
 
 abbrev start : tie.After-renumber → tie.Start
 start c = given (c .before .before)
@@ -39,8 +39,8 @@ counted c = c .before .before .before .before
 
 -- the edge numbers at the front
 laid : (c : tie.After-renumber) → let s = start c in
-    One (numbered (whole s)) (s .args .w .now) (c .renumber .last .1 .1 .0 ++ drop (s .args .n + 1 + length (s .args .sources .now)) (s .args .w .now))
-laid c = let s = start c in one-laid (numbered (whole s)) (s .args .w .now) (c .renumber .last .1 .1 .0) (numbers-ask (s .pre)) (c .renumber .ensures)
+    One (numbered (whole s)) (s .args .w .now) (c .renumber .last .1 .1 .1 .1 .0 ++ drop (s .args .n + 1 + length (s .args .sources .now)) (s .args .w .now))
+laid c = let s = start c in one-laid (numbered (whole s)) (s .args .kinds .now) (s .args .w .now) (c .renumber .last .1 .1 .1 .1 .0) (numbers-ask (s .pre)) (c .renumber .ensures)
 
 -- what is known of the table when the ranks are 0
 grounded : (c : tie.After-fill) → let s = start (renumbered c) in Ground (whole s) (s .args .label .now) (s .args .b) (c .fill .last .0)
@@ -59,7 +59,7 @@ fill-requires : tie.Need-fill-requires
 fill-requires c κs = let r = c .before .before .before in omega (arith, start r .pre .ground .fits, laid r .long)
 
 counts-requires : tie.Need-counts-requires
-counts-requires c κs = grounded (c .before .before .before)
+counts-requires c κs = let f = c .before .before .before in record { ground = grounded f; kinded = start (renumbered f) .pre .kinded }
 
 frees-requires : tie.Need-frees-requires
 frees-requires c κs = let n = c .before .before .before in frees-ask (grounded (filled n)) (n .counts .ensures)
