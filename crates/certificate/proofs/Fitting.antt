@@ -6,7 +6,7 @@ use mathlib.Core.Path.{_≡_, refl, sym, _∙_}
 use mathlib.Core.Logic.{inl, inr, by-cases}
 use mathlib.Core.Bool.{Bool, true, false, cond, _&&_}
 use mathlib.Core.List.{List}
-use lib.Dec.{T, eqb}
+use lib.Dec.{eqb}
 use borrow.Author.Tests.{eq-eqb, ne-eqb, lt-ltb, eqb-true}
 use Rattle.graph.specs.Graph.{Graph, Valid, Edge, Chain, stay, edges, from, to}
 use Rattle.graph.specs.Numbers.{least}
@@ -17,37 +17,38 @@ use Rattle.graph.proofs.Least.{least-found}
 use Rattle.classes.specs.Classes.{class, OwnLabels, Distances}
 use Rattle.certificate.specs.Entries.{Fit, fits, FirstFit, Entries}
 
-three : (a b c : Bool) → (a && b && c) ≡ true → (a ≡ true) × (b ≡ true) × (c ≡ true)
-three true true true q = (refl, refl, refl)
-three true true false q = let z : _≡_ {A = ℕ} 0 1 = cc in absurd (omega arith)
-three true false c q = let z : _≡_ {A = ℕ} 0 1 = cc in absurd (omega arith)
-three false b c q = let z : _≡_ {A = ℕ} 0 1 = cc in absurd (omega arith)
+four : (a b c d : Bool) → (a && b && c && d) ≡ true → (a ≡ true) × (b ≡ true) × (c ≡ true) × (d ≡ true)
+four true true true true q = (refl, refl, refl, refl)
+four true true true false q = let z : _≡_ {A = ℕ} 0 1 = cc in absurd (omega arith)
+four true true false d q = let z : _≡_ {A = ℕ} 0 1 = cc in absurd (omega arith)
+four true false c d q = let z : _≡_ {A = ℕ} 0 1 = cc in absurd (omega arith)
+four false b c d q = let z : _≡_ {A = ℕ} 0 1 = cc in absurd (omega arith)
 
 module _ (g : Graph) (lab : List ℕ) (d : ℕ → ℕ) (e v : ℕ) where
   pub fits-says : fits g lab d e v ≡ true → Fit g lab d e v
   unfolding fits
   fits-says q =
-      let (a, b, c) = three (eqb (to g e) v) (eqb (at lab (from g e)) (at lab v)) (eqb (d v) (d (from g e) + 1)) q in
-      record { enters = eqb-true (to g e) v a; same = eqb-true (at lab (from g e)) (at lab v) b; nearer = eqb-true (d v) (d (from g e) + 1) c }
+      let (k, a, b, c) = four (g .counted e) (eqb (to g e) v) (eqb (at lab (from g e)) (at lab v)) (eqb (d v) (d (from g e) + 1)) q in
+      record { counts = rw k tt; enters = eqb-true (to g e) v a; same = eqb-true (at lab (from g e)) (at lab v) b; nearer = eqb-true (d v) (d (from g e) + 1) c }
 
   pub fits-make : Fit g lab d e v → fits g lab d e v ≡ true
   unfolding fits
-  fits-make f = rw (eq-eqb (to g e) v (f .enters), eq-eqb (at lab (from g e)) (at lab v) (f .same), eq-eqb (d v) (d (from g e) + 1) (f .nearer))
+  fits-make f = rw (T-true (g .counted e) (f .counts), eq-eqb (to g e) v (f .enters), eq-eqb (at lab (from g e)) (at lab v) (f .same), eq-eqb (d v) (d (from g e) + 1) (f .nearer))
 
--- the checker's test of an in-edge is this one, where every edge counts
-module _ {g : Graph} (ok : Valid g) (lab dist : List ℕ) (d : ℕ → ℕ) (counts : (e : ℕ) → T (g .counted e)) (same : (v : ℕ) → v < g .n → d v ≡ at dist v) (low : (v : ℕ) → v < g .n → d v < g .n) where
+-- the checker's test of an in-edge is this one
+module _ {g : Graph} (ok : Valid g) (lab dist : List ℕ) (d : ℕ → ℕ) (same : (v : ℕ) → v < g .n → d v ≡ at dist v) (low : (v : ℕ) → v < g .n → d v < g .n) where
   pub entry-fits : (e v : ℕ) → e < edges g → v < g .n → entry g lab dist e v ≡ fits g lab d e v
   unfolding entry fits
   entry-fits e v m l =
       let lx : from g e < g .n = ok .from-low e m in
-      let c : g .counted e ≡ true = T-true (g .counted e) (counts e) in
-      rw (lt-ltb e (edges g) m, c, ← (same v l), ← (same (from g e) lx), lt-ltb (d v) (g .n) (low v l))
-      (and-true (eqb (to g e) v) (eqb (at lab (from g e)) (at lab v)) (eqb (d v) (d (from g e) + 1)))
+      rw (lt-ltb e (edges g) m, ← (same v l), ← (same (from g e) lx), lt-ltb (d v) (g .n) (low v l))
+      (and-true (g .counted e) (eqb (to g e) v) (eqb (at lab (from g e)) (at lab v)) (eqb (d v) (d (from g e) + 1)))
     where
-      and-true : (a b c : Bool) → (a && b && true && c) ≡ (a && b && c)
-      and-true true true c = refl
-      and-true true false c = refl
-      and-true false b c = refl
+      and-true : (k a b c : Bool) → (k && a && b && true && c) ≡ (k && a && b && c)
+      and-true true true true c = refl
+      and-true true true false c = refl
+      and-true true false b c = refl
+      and-true false a b c = refl
 
 module _ {g : Graph} (ok : Valid g) (lab : List ℕ) (own : OwnLabels (g .n) lab) (d : ℕ → ℕ) (near : Distances g lab d) where
   -- a label is at distance 0, and no edge fits it
@@ -69,7 +70,7 @@ module _ {g : Graph} (ok : Valid g) (lab : List ℕ) (own : OwnLabels (g .n) lab
               let p : d x ≤ k = near x lx .shortest k (rw s b) in
               let c′ : Chain g (class lab (at lab v)) (suc (d x)) (at lab v) v = chain-snoc e (rw s at (near x lx .chain)) y refl in
               let r : d v ≤ suc (d x) = near v l .shortest (suc (d x)) c′ in
-              (e, y .low, fits-make g lab d e v (record { enters = y .enters; same = rw (y .leaves) s; nearer = rw (y .leaves) (omega arith) }))
+              (e, y .low, fits-make g lab d e v (record { counts = y .counts; enters = y .enters; same = rw (y .leaves) s; nearer = rw (y .leaves) (omega arith) }))
 
   module _ (edge : ℕ → ℕ) (first : Entries g lab d edge) where
     pub own-none : (v : ℕ) → v < g .n → at lab v ≡ v → edge v ≡ noEdge
@@ -92,7 +93,7 @@ module _ {g : Graph} (ok : Valid g) (lab : List ℕ) (own : OwnLabels (g .n) lab
         go (inr (_, m, f, _)) = (m, fits-says g lab d (edge v) v f)
 
     -- the certificate's entry
-    module _ (counts : (e : ℕ) → T (g .counted e)) (dist : List ℕ) (same : (v : ℕ) → v < g .n → d v ≡ at dist v) (low : (v : ℕ) → v < g .n → d v < g .n) where
+    module _ (dist : List ℕ) (same : (v : ℕ) → v < g .n → d v ≡ at dist v) (low : (v : ℕ) → v < g .n → d v < g .n) where
       pub edge-least : (v : ℕ) → v < g .n → edge v ≡ cond (eqb (at lab v) v) noEdge (least (edges g) (λ e. entry g lab dist e v))
       edge-least v l = by-cases (ℕ-discrete (at lab v) v)
           (λ q. own-none v l q ∙ rw (eq-eqb (at lab v) v q))
@@ -102,5 +103,5 @@ module _ {g : Graph} (ok : Valid g) (lab : List ℕ) (own : OwnLabels (g .n) lab
           other o (inl (z, none)) = let (e, m, t) = fit-there v l o in let y : true ≡ false = sym t ∙ none e (omega arith) m in let x : _≡_ {A = ℕ} 0 1 = cc in absurd (omega arith)
           other o (inr (_, m, f, none)) =
               least-found (edges g) (λ e. entry g lab dist e v) (edge v) m
-              (λ e k. entry-fits ok lab dist d counts same low e v (omega arith) l ∙ none e (omega arith) k)
-              (entry-fits ok lab dist d counts same low (edge v) v m l ∙ f)
+              (λ e k. entry-fits ok lab dist d same low e v (omega arith) l ∙ none e (omega arith) k)
+              (entry-fits ok lab dist d same low (edge v) v m l ∙ f)

@@ -2,11 +2,12 @@
 use Prim.Native.Nat.{ℕ, suc, _+_, _-_, _≤_, _<_}
 use native.Mathlib.Omega.{arith}
 use native.Mathlib.Decide.{ℕ-discrete}
-use mathlib.Core.Path.{_≡_, sym, _∙_}
+use mathlib.Core.Path.{_≡_, refl, sym, _∙_}
 use mathlib.Core.Logic.{inl, inr, by-cases}
-use mathlib.Core.Bool.{false}
+use mathlib.Core.Bool.{Bool, true, false, _&&_}
 use mathlib.Core.List.{List}
 use lib.ListN.{length, getD, set, length-set}
+use lib.Dec.{eqb}
 use lib.Seq.{getD-set-same, getD-set-other}
 use borrow.Author.Tests.{ne-eqb}
 use Rattle.graph.specs.Graph.{Graph, edges, from, to}
@@ -22,7 +23,11 @@ fits-same g lab d h e v p q = rw (p, q)
 
 fits-else : (g : Graph) (lab : List ℕ) (d : ℕ → ℕ) (e v : ℕ) → (to g e ≡ v → ⊥) → fits g lab d e v ≡ false
 unfolding fits
-fits-else g lab d e v o = rw (ne-eqb (to g e) v o)
+fits-else g lab d e v o = rw (ne-eqb (to g e) v o) (and-false (g .counted e) (eqb (at lab (from g e)) (at lab v)) (eqb (d v) (d (from g e) + 1)))
+  where
+    and-false : (a b c : Bool) → (a && false && b && c) ≡ false
+    and-false true b c = refl
+    and-false false b c = refl
 
 first-down : (g : Graph) (lab : List ℕ) (d : ℕ → ℕ) (a x v : ℕ) → fits g lab d a v ≡ false → FirstFit g lab d (suc a) x v → FirstFit g lab d a x v
 first-down g lab d a x v z (inl (q, none)) = inl (q, λ e l m. by-cases (ℕ-discrete e a) (λ y. rw y z) (λ o. none e (omega arith) m))
@@ -34,19 +39,19 @@ pub record Offers (g : Graph) (lab : List ℕ) (d b e : ℕ) (w₀ w : List ℕ)
   pub first : (dist : ℕ → ℕ) → Holds (g .n) d dist w₀ → (v : ℕ) → v < g .n → FirstFit g lab dist e (region b w v) v
 
 -- what is asked holds in any memory of that length
-pub entries-kept : {g : Graph} {lab : List ℕ} {d b : ℕ} {w w′ : List ℕ} → EntriesAsk g lab d b w → length w′ ≡ length w → EntriesAsk g lab d b w′
-entries-kept a q = record { valid = a .valid; size = a .size; few = a .few; apart = a .apart; room = omega (arith, a .room) }
+pub entries-kept : {g : Graph} {kinds lab : List ℕ} {d b : ℕ} {w w′ : List ℕ} → EntriesAsk g kinds lab d b w → length w′ ≡ length w → EntriesAsk g kinds lab d b w′
+entries-kept a q = record { valid = a .valid; kinded = a .kinded; size = a .size; few = a .few; apart = a .apart; room = omega (arith, a .room) }
 
-pub offered-kept : {g : Graph} {lab : List ℕ} {d b : ℕ} (e : ℕ) {w w′ : List ℕ} → EntriesAsk g lab d b w → Offered g lab d b e w w′ → EntriesAsk g lab d b w′
+pub offered-kept : {g : Graph} {kinds lab : List ℕ} {d b : ℕ} (e : ℕ) {w w′ : List ℕ} → EntriesAsk g kinds lab d b w → Offered g lab d b e w w′ → EntriesAsk g kinds lab d b w′
 offered-kept {g} {b = b} e {w} a (inl (_, q)) = entries-kept a (rw q (length-set w (b + to g e) e))
 offered-kept e a (inr (_, q)) = rw q a
 
 pub offers-none : {g : Graph} {lab : List ℕ} {d b : ℕ} {w w₀ : List ℕ} → Filled b (g .n) noEdge w w₀ → Offers g lab d b (edges g) w₀ w₀
 offers-none f = record { framed = framed-none _ _ _; first = λ dist h v l. inl (f .each v l, λ e p q. absurd (omega arith)) }
 
-module _ {g : Graph} {lab : List ℕ} {d b e : ℕ} {w : List ℕ} (a : EntriesAsk g lab d b w) (l : e ≤ edges g) where
+module _ {g : Graph} {kinds lab : List ℕ} {d b e : ℕ} {w : List ℕ} (a : EntriesAsk g kinds lab d b w) (l : e ≤ edges g) where
   module _ (some : 0 < e) where
-    pub offer-ask : OfferAsk g lab d b (e - 1) w
+    pub offer-ask : OfferAsk g kinds lab d b (e - 1) w
     offer-ask =
         let m : e - 1 < edges g = omega arith in
         record { ask = a; low = m; leaves = a .valid .from-low (e - 1) m; enters = a .valid .to-low (e - 1) m }

@@ -5,8 +5,7 @@ use native.Mathlib.Decide.{ℕ-discrete}
 use mathlib.Core.Path.{_≡_, refl, sym, ap, _∙_}
 use mathlib.Core.Logic.{_⊎_, inl, inr}
 use mathlib.Core.List.{List}
-use lib.Dec.{T}
-use Rattle.graph.specs.Graph.{Graph, Valid, Edge, Chain, stay, step, Same, all, rev, edges, from, to}
+use Rattle.graph.specs.Graph.{Graph, Valid, IsEdge, Edge, Chain, stay, step, Same, all, rev, from, to}
 use Rattle.graph.specs.Checker.{at}
 use Rattle.graph.specs.Certificate.{Right, Climb, here, flat, up, rankOf}
 use Rattle.graph.proofs.Chains.{chain-wider, chain-to-low, edge-from-low, edge-to-low, reach-rev}
@@ -16,12 +15,12 @@ use Rattle.classes.specs.Classes.{OwnLabels, Distances}
 use Rattle.ranks.specs.Ranks.{Ranks}
 use Rattle.classes.proofs.Inside.{right-tells}
 
-module _ {g : Graph} (ok : Valid g) (counts : (e : ℕ) → T (g .counted e)) (lab : List ℕ) (own : OwnLabels (g .n) lab) (rank : ℕ → ℕ) (ranks : Ranks g lab rank) where
+module _ {g : Graph} (ok : Valid g) (lab : List ℕ) (own : OwnLabels (g .n) lab) (rank : ℕ → ℕ) (ranks : Ranks g lab rank) where
   one-rank : (u v : ℕ) → u < g .n → v < g .n → at lab u ≡ at lab v → rank u ≡ rank v
   one-rank u v k l p = ranks .same u k ∙ ap rank p ∙ sym (ranks .same v l)
 
   grows-by : (e : ℕ) {u v : ℕ} → Edge g e u v → (at lab u ≡ at lab v → ⊥) → rank u < rank v
-  grows-by e x o = rw (← (x .leaves), ← (x .enters)) (ranks .grows e (x .low) (λ q. o (rw (x .leaves, x .enters) at q)))
+  grows-by e x o = rw (← (x .leaves), ← (x .enters)) (ranks .grows e (x .low, x .counts) (λ q. o (rw (x .leaves, x .enters) at q)))
 
   -- along a chain the label stays, or the rank grows
   along : {h u v : ℕ} → u < g .n → Chain g all h u v → (at lab u ≡ at lab v) ⊎ (rank u < rank v)
@@ -77,11 +76,11 @@ module _ {g : Graph} (ok : Valid g) (counts : (e : ℕ) → T (g .counted e)) (l
         exact u k m c = let z : k ≡ suc r = omega (arith, most u c) in (u, rw z at c)
 
         go : ((v : ℕ) → v < g .n → rank v ≡ r → (u : ℕ) × Climb g (at lab) r u v)
-            → (rank v ≡ 0) ⊎ ((e : ℕ) × (e < edges g) × (at lab (from g e) ≡ at lab (to g e) → ⊥) × (at lab (to g e) ≡ at lab v) × (rank v ≡ rank (from g e) + 1))
+            → (rank v ≡ 0) ⊎ ((e : ℕ) × IsEdge g e × (at lab (from g e) ≡ at lab (to g e) → ⊥) × (at lab (to g e) ≡ at lab v) × (rank v ≡ rank (from g e) + 1))
             → (u : ℕ) × Climb g (at lab) (suc r) u v
         go ih (inl z) = absurd (omega arith)
-        go ih (inr (e, m, o, s, z)) =
-            let x : Edge g e (from g e) (to g e) = record { low = m; counts = counts e; leaves = refl; enters = refl } in
+        go ih (inr (e, (m, t), o, s, z)) =
+            let x : Edge g e (from g e) (to g e) = record { low = m; counts = t; leaves = refl; enters = refl } in
             let (u, c) = ih (from g e) (edge-from-low ok x) (omega arith) in
             let same : Same g (to g e) v = right-tells ok lab right (to g e) v (edge-to-low ok x) l .0 s in
             let (k, more, c′) = climb-on ok (at lab) (up e c x o) (same .there .1) in

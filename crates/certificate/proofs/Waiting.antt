@@ -5,8 +5,8 @@ use native.Mathlib.Decide.{ℕ-discrete}
 use mathlib.Core.Path.{_≡_, refl, sym, ap, _∙_}
 use mathlib.Core.Logic.{_⊎_, inl, inr, by-cases}
 use mathlib.Core.List.{List}
-use lib.Dec.{T, eqb}
-use Rattle.graph.specs.Graph.{Graph, Valid, Edge, Reach, all, rev, edges, from, to}
+use lib.Dec.{eqb}
+use Rattle.graph.specs.Graph.{Graph, Valid, IsEdge, Edge, Reach, all, rev, edges, from, to}
 use Rattle.graph.specs.Limits.{mostEdges}
 use Rattle.graph.specs.Search.{every, reached}
 use Rattle.graph.specs.Checker.{at, noEdge}
@@ -19,7 +19,7 @@ use Rattle.certificate.specs.Entries.{Fit, FirstFit, Entries}
 use Rattle.ranks.specs.Ranks.{lead, rise, Peeled, Stuck, Ranks}
 use Rattle.classes.proofs.Inside.{right-tells}
 use Rattle.certificate.proofs.Fitting.{fits-says, own-none, edge-fits}
-use Rattle.ranks.proofs.Leads.{lead-change, lead-in, awaits}
+use Rattle.ranks.proofs.Leads.{lead-counts, lead-change, lead-in, awaits}
 
 module _ {g : Graph} (ok : Valid g) (lab : List ℕ) (own : OwnLabels (g .n) lab) (d inEdge : ℕ → ℕ) (near : Distances g lab d) (first : Entries g lab d inEdge) (few : edges g ≤ mostEdges) where
   low : (v : ℕ) → v < g .n → at lab v < g .n
@@ -48,7 +48,7 @@ module _ {g : Graph} (ok : Valid g) (lab : List ℕ) (own : OwnLabels (g .n) lab
         go (m, f) way =
             let s : at lab (from g (inEdge v)) ≡ at lab (to g (inEdge v)) = rw (f .enters) (f .same) in
             let i : inEdge (to g (inEdge v)) ≡ inEdge v = ap inEdge (f .enters) in
-            let (a, r) = lead-in g lab inEdge (inEdge v) s i in
+            let (a, r) = lead-in g lab inEdge (inEdge v) (f .counts) s i in
             let t : lead g lab inEdge (inEdge v) ≡ v = a ∙ f .enters in
             let more : rank (from g (inEdge v)) + rise g lab (inEdge v) ≤ rank (lead g lab inEdge (inEdge v)) = all-gone .raised (inEdge v) m (omega arith) in
             by way (rw (t, r) at more)
@@ -78,43 +78,43 @@ module _ {g : Graph} (ok : Valid g) (lab : List ℕ) (own : OwnLabels (g .n) lab
     same-rank : (v : ℕ) → v < g .n → rank v ≡ rank (at lab v)
     same-rank v l = one-class (d v) v l (omega arith)
 
-    grows-there : (e : ℕ) → e < edges g → (at lab (from g e) ≡ at lab (to g e) → ⊥) → rank (from g e) < rank (to g e)
-    grows-there e m o =
-        let (a, r) = lead-change g lab inEdge e o in
+    grows-there : (e : ℕ) → IsEdge g e → (at lab (from g e) ≡ at lab (to g e) → ⊥) → rank (from g e) < rank (to g e)
+    grows-there e (m, t) o =
+        let (a, r) = lead-change g lab inEdge e t o in
         let l : to g e < g .n = ok .to-low e m in
         let more : rank (from g e) + rise g lab e ≤ rank (lead g lab inEdge e) = all-gone .raised e m (omega (arith, low (to g e) l)) in
         let more′ : rank (from g e) + 1 ≤ rank (at lab (to g e)) = rw (a, r) at more in
         omega (arith, same-rank (to g e) l)
 
     reached-there : (v : ℕ) → v < g .n → (rank v ≡ 0)
-        ⊎ ((e : ℕ) × (e < edges g) × (at lab (from g e) ≡ at lab (to g e) → ⊥) × (at lab (to g e) ≡ at lab v) × (rank v ≡ rank (from g e) + 1))
+        ⊎ ((e : ℕ) × IsEdge g e × (at lab (from g e) ≡ at lab (to g e) → ⊥) × (at lab (to g e) ≡ at lab v) × (rank v ≡ rank (from g e) + 1))
     reached-there v l = go (all-gone .attained (at lab v) (low v l))
       where
         go : up-to (at lab v) → (rank v ≡ 0)
-            ⊎ ((e : ℕ) × (e < edges g) × (at lab (from g e) ≡ at lab (to g e) → ⊥) × (at lab (to g e) ≡ at lab v) × (rank v ≡ rank (from g e) + 1))
+            ⊎ ((e : ℕ) × IsEdge g e × (at lab (from g e) ≡ at lab (to g e) → ⊥) × (at lab (to g e) ≡ at lab v) × (rank v ≡ rank (from g e) + 1))
         go (inl z) = inl (same-rank v l ∙ z)
         go (inr (e, m, q, z)) = pick (awaits g lab inEdge e (at lab v) (low v l) q)
           where
             pick : ((at lab (from g e) ≡ at lab (to g e)) × (inEdge (at lab v) ≡ e) × (to g e ≡ at lab v) × (rise g lab e ≡ 0))
                 ⊎ ((at lab (from g e) ≡ at lab (to g e) → ⊥) × (at lab (to g e) ≡ at lab v) × (rise g lab e ≡ 1))
-                → (rank v ≡ 0) ⊎ ((e : ℕ) × (e < edges g) × (at lab (from g e) ≡ at lab (to g e) → ⊥) × (at lab (to g e) ≡ at lab v) × (rank v ≡ rank (from g e) + 1))
+                → (rank v ≡ 0) ⊎ ((e : ℕ) × IsEdge g e × (at lab (from g e) ≡ at lab (to g e) → ⊥) × (at lab (to g e) ≡ at lab v) × (rank v ≡ rank (from g e) + 1))
             pick (inl (s, i, t, r)) = absurd (not-edge e m (sym i ∙ own-none ok lab own d near inEdge first (at lab v) (low v l) (own v l .1)))
-            pick (inr (o, t, r)) = inr (e, m, o, t, omega (arith, same-rank v l))
+            pick (inr (o, t, r)) = inr (e, (m, lead-counts g lab inEdge e (omega (arith, low v l))), o, t, omega (arith, same-rank v l))
 
     -- EVERY VERTEX GONE: one rank a class, greater where the label changes, and each reached
     pub gone-ranks : Ranks g lab rank
     gone-ranks = record { same = same-rank; grows = grows-there; attained = reached-there }
 
   -- WITH RIGHT LABELS NO VERTEX STAYS: it would wait for one that fewer reach, or for one nearer to the label
-  module _ (right : Right g lab) (counts : ℕ → ℕ) (stuck : Stuck g lab inEdge counts) (counted : (e : ℕ) → T (g .counted e)) where
+  module _ (right : Right g lab) (counts : ℕ → ℕ) (stuck : Stuck g lab inEdge counts) where
     abbrev behind : ℕ → ℕ
     behind v = count (reached (rev g) every (eqb v))
 
     abbrev Gone : ℕ → ℕ → Type 0
     Gone a b = (v : ℕ) → v < g .n → behind v ≤ a → d v ≤ b → (counts v ≡ 0 → ⊥) → ⊥
 
-    table-edge : (e : ℕ) → e < edges g → Edge g e (from g e) (to g e)
-    table-edge e m = record { low = m; counts = counted e; leaves = refl; enters = refl }
+    table-edge : (e : ℕ) → IsEdge g e → Edge g e (from g e) (to g e)
+    table-edge e (m, t) = record { low = m; counts = t; leaves = refl; enters = refl }
 
     next : (a b v : ℕ) → v < g .n → behind v ≤ a → d v ≤ b
         → ((u : ℕ) → u < g .n → behind u < a → (counts u ≡ 0 → ⊥) → ⊥)
@@ -132,7 +132,7 @@ module _ {g : Graph} (ok : Valid g) (lab : List ℕ) (own : OwnLabels (g .n) lab
             lt = ok .to-low e m
 
             there : Reach g all (from g e) (to g e)
-            there = reach-edge e tt tt (table-edge e m)
+            there = reach-edge e tt tt (table-edge e (m, lead-counts g lab inEdge e (omega arith)))
 
             pick : ((at lab (from g e) ≡ at lab (to g e)) × (inEdge v ≡ e) × (to g e ≡ v) × (rise g lab e ≡ 0))
                 ⊎ ((at lab (from g e) ≡ at lab (to g e) → ⊥) × (at lab (to g e) ≡ v) × (rise g lab e ≡ 1)) → ⊥

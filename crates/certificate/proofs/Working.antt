@@ -5,16 +5,16 @@ use mathlib.Core.Path.{_≡_, refl, sym, subst, _∙_}
 use mathlib.Core.Logic.{inl, inr, ⊎-elim}
 use mathlib.Core.Bool.{Bool, true, false, cond, not}
 use mathlib.Core.List.{List}
-use lib.ListN.{length, getD}
-use lib.Dec.{T, eqb}
-use Rattle.graph.specs.Graph.{Graph, graph, Valid, Chain, rev, edges}
+use lib.ListN.{getD}
+use lib.Dec.{eqb}
+use Rattle.graph.specs.Graph.{Graph, table, Valid, Chain, rev, edges}
 use Rattle.graph.specs.Arrows.{Some, Every, arrows, back}
 use Rattle.graph.specs.Limits.{mostEdges}
 use Rattle.graph.specs.Checker.{at, noEdge, entry}
 use Rattle.graph.specs.Numbers.{least}
 use Rattle.graph.specs.Certificate.{Right, certificate, distOf, rankOf, distances, entries, ranks}
-use Rattle.graph.proofs.Tests.{getD-table}
-use Rattle.graph.proofs.Chains.{valid-rev, label-rev, graph-turned}
+use Rattle.graph.proofs.Tests.{getD-each}
+use Rattle.graph.proofs.Chains.{valid-rev, label-rev, table-turned}
 use Rattle.index.specs.Build.{BothAsk, Both}
 use Rattle.index.proofs.Asks.{valid-both}
 use Rattle.index.proofs.Counts.{start-all}
@@ -38,16 +38,16 @@ use Rattle.classes.proofs.Classing.{when, unless}
 unreached : {g : Graph} → Valid g → (lab : List ℕ) → (v : ℕ) × (v < g .n) × ((h : ℕ) → Chain g (class lab (at lab v)) h (at lab v) v → ⊥) → Right g lab → ⊥
 unreached ok lab (v, l, o) right = let (h, c) = reached-inside ok lab right v l in o h c
 
-module _ {n : ℕ} {sources targets lab : List ℕ} {b : ℕ} {w : List ℕ} (a : FindAsk (graph n sources targets) lab b w) where
-  abbrev g : Graph
-  g = graph n sources targets
-
-  pub both-ask : BothAsk g w
-  both-ask = valid-both (a .ask .valid) (a .ask .small) (a .ask .few) (omega (arith, a .ask .room))
+module _ {g : Graph} {kinds lab : List ℕ} {b : ℕ} {w : List ℕ} (a : FindAsk g kinds lab b w) where
+  -- both indexes can be made, whichever edges count: that they are those of g is the promise's matter
+  pub both-ask : (counted : ℕ → Bool) → BothAsk (record { n = g .n; m = g .m; src = g .src; tgt = g .tgt; counted = counted }) kinds w
+  both-ask counted =
+      let v = a .ask .valid in
+      valid-both (record { long = v .long; same = v .same; from-low = v .from-low; to-low = v .to-low }) (a .ask .kinded) (a .ask .small) (a .ask .few) (omega (arith, a .ask .room))
 
   module _ {w₁ : List ℕ} (x : Both g w w₁) where
     behind : (j : ℕ) → b ≤ j → getD w₁ j 0 ≡ getD w j 0
-    behind j l = x .rest j (omega (arith, a .place, start-all (λ e. true) targets (length sources) n))
+    behind j l = x .rest j (omega (arith, a .place, start-all (g .counted) (g .tgt) (edges g) (g .n)))
 
     forward : DistancesAsk g lab 0 b w₁
     forward =
@@ -59,10 +59,10 @@ module _ {n : ℕ} {sources targets lab : List ℕ} {b : ℕ} {w : List ℕ} (a 
           fits = omega (arith, a .ask .room, a .place, x .long);
         }
 
-    pub there-ask : Some n (λ g. DistancesAsk g lab 0 b w₁)
+    pub there-ask : Some (g .n) (λ h. DistancesAsk h lab 0 b w₁)
     there-ask = (arrows g, forward)
 
-    module _ {w₂ : List ℕ} {r : Bool} (told : Every n (λ g. DistancesAsk g lab 0 b w₁ → Measured g lab b w₁ w₂ r)) where
+    module _ {w₂ : List ℕ} {r : Bool} (told : Every (g .n) (λ h. DistancesAsk h lab 0 b w₁ → Measured h lab b w₁ w₂ r)) where
       there : Measured g lab b w₁ w₂ r
       there = told (arrows g) forward
 
@@ -74,7 +74,7 @@ module _ {n : ℕ} {sources targets lab : List ℕ} {b : ℕ} {w : List ℕ} (a 
           }
 
       module _ (q : not r ≡ false) where
-        backward : DistancesAsk (rev g) lab (n + 1 + length sources) (b + n) w₂
+        backward : DistancesAsk (rev g) lab (g .n + 1 + edges g) (b + g .n) w₂
         backward =
             record {
               laid =
@@ -82,7 +82,7 @@ module _ {n : ℕ} {sources targets lab : List ℕ} {b : ℕ} {w : List ℕ} (a 
                     valid = valid-rev (a .ask .valid);
                     few = a .ask .few;
                     below = omega (arith, a .place);
-                    index = held-kept (rev g) (n + 1 + length sources) w₁ w₂ (λ j l m. there .kept .low j (omega (arith, a .place))) (x .reverse);
+                    index = held-kept (rev g) (g .n + 1 + edges g) w₁ w₂ (λ j l m. there .kept .low j (omega (arith, a .place))) (x .reverse);
                   };
               small = a .ask .small;
               size = a .ask .size;
@@ -90,10 +90,10 @@ module _ {n : ℕ} {sources targets lab : List ℕ} {b : ℕ} {w : List ℕ} (a 
               fits = omega (arith, a .ask .room, a .place, x .long, there .kept .long);
             }
 
-        pub back-ask : Some n (λ g. DistancesAsk g lab (n + 1 + length sources) (b + n) w₂)
+        pub back-ask : Some (g .n) (λ h. DistancesAsk h lab (g .n + 1 + edges g) (b + g .n) w₂)
         back-ask = (back (arrows g), backward)
 
-        pub find-end : {w₃ : List ℕ} {s : Bool} → Every n (λ g. DistancesAsk g lab (n + 1 + length sources) (b + n) w₂ → Measured g lab (b + n) w₂ w₃ s) → Found g lab b w w₃ s
+        pub find-end : {w₃ : List ℕ} {s : Bool} → Every (g .n) (λ h. DistancesAsk h lab (g .n + 1 + edges g) (b + g .n) w₂ → Measured h lab (b + g .n) w₂ w₃ s) → Found g lab b w w₃ s
         find-end {w₃} {s} told-back =
             record {
               beyond =
@@ -117,34 +117,35 @@ module _ {n : ℕ} {sources targets lab : List ℕ} {b : ℕ} {w : List ℕ} (a 
                   (z .either);
             }
           where
-            z : Measured (rev g) lab (b + n) w₂ w₃ s
+            z : Measured (rev g) lab (b + g .n) w₂ w₃ s
             z = told-back (back (arrows g)) backward
 
-            kept-there : (v : ℕ) → v < n → region b w₃ v ≡ region b w₂ v
+            kept-there : (v : ℕ) → v < g .n → region b w₃ v ≡ region b w₂ v
             kept-there v l = z .kept .low (b + v) (omega arith)
 
-pub enter-ask : {n : ℕ} {sources targets lab : List ℕ} {b : ℕ} {w : List ℕ} → CompleteAsk (graph n sources targets) lab b w → EntriesAsk (graph n sources targets) lab b (inEdges n b) w
-enter-ask a = record { valid = a .valid; size = a .size; few = a .few; apart = omega arith; room = omega (arith, a .room) }
+pub enter-ask : {g : Graph} {kinds lab : List ℕ} {b : ℕ} {w : List ℕ} → CompleteAsk g kinds lab b w → EntriesAsk g kinds lab b (inEdges (g .n) b) w
+enter-ask a = record { valid = a .valid; kinded = a .kinded; size = a .size; few = a .few; apart = omega arith; room = omega (arith, a .room) }
 
-module _ {n : ℕ} {sources targets lab : List ℕ} {b : ℕ} {w w₁ : List ℕ} (a : CompleteAsk (graph n sources targets) lab b w) (x : Entered (graph n sources targets) lab b (inEdges n b) w w₁) where
+module _ {n : ℕ} {sources targets kinds : List ℕ} (mask : ℕ) {lab : List ℕ} {b : ℕ} {w w₁ : List ℕ}
+    (a : CompleteAsk (table n sources targets kinds mask) kinds lab b w) (x : Entered (table n sources targets kinds mask) lab b (inEdges n b) w w₁) where
   -- the entries of the exchanged columns are those of the table turned
-  turned : graph n targets sources ≡ rev (graph n sources targets)
-  turned = graph-turned n sources targets (a .valid .same)
+  turned : table n targets sources kinds mask ≡ rev (table n sources targets kinds mask)
+  turned = table-turned n sources targets kinds mask (a .valid .same)
 
-  leaving : EntriesAsk (rev (graph n sources targets)) lab (b + n) (outEdges n b) w₁
-  leaving = record { valid = valid-rev (a .valid); size = a .size; few = a .few; apart = omega arith; room = omega (arith, a .room, x .framed .long) }
+  leaving : EntriesAsk (rev (table n sources targets kinds mask)) kinds lab (b + n) (outEdges n b) w₁
+  leaving = record { valid = valid-rev (a .valid); kinded = a .kinded; size = a .size; few = a .few; apart = omega arith; room = omega (arith, a .room, x .framed .long) }
 
-  pub leave-ask : EntriesAsk (graph n targets sources) lab (b + n) (outEdges n b) w₁
-  leave-ask = subst (λ (g : Graph). EntriesAsk g lab (b + n) (outEdges n b) w₁) (sym turned) leaving
+  pub leave-ask : EntriesAsk (table n targets sources kinds mask) kinds lab (b + n) (outEdges n b) w₁
+  leave-ask = subst (λ (g : Graph). EntriesAsk g kinds lab (b + n) (outEdges n b) w₁) (sym turned) leaving
 
-  module _ {w₂ : List ℕ} (left : Entered (graph n targets sources) lab (b + n) (outEdges n b) w₁ w₂) where
-    y : Entered (rev (graph n sources targets)) lab (b + n) (outEdges n b) w₁ w₂
+  module _ {w₂ : List ℕ} (left : Entered (table n targets sources kinds mask) lab (b + n) (outEdges n b) w₁ w₂) where
+    y : Entered (rev (table n sources targets kinds mask)) lab (b + n) (outEdges n b) w₁ w₂
     y = subst (λ (g : Graph). Entered g lab (b + n) (outEdges n b) w₁ w₂) turned left
 
     front-two : (j : ℕ) → j < inEdges n b → getD w₂ j 0 ≡ getD w j 0
     front-two j l = y .framed .low j (omega arith) ∙ x .framed .low j l
 
-    pub ranks-ask : RanksAsk (graph n sources targets) lab b w₂
+    pub ranks-ask : RanksAsk (table n sources targets kinds mask) kinds lab b w₂
     ranks-ask =
         record {
           ground =
@@ -156,12 +157,12 @@ module _ {n : ℕ} {sources targets lab : List ℕ} {b : ℕ} {w w₁ : List ℕ
                 few = a .few;
                 fits = omega (arith, a .room, x .framed .long, y .framed .long);
               };
-          counts = a .counts;
-          index = held-kept (graph n sources targets) 0 w w₂ (λ j l m. front-two j (omega (arith, a .below))) (a .index);
+          kinded = a .kinded;
+          index = held-kept (table n sources targets kinds mask) 0 w w₂ (λ j l m. front-two j (omega (arith, a .below))) (a .index);
           below = a .below;
         }
 
-    pub complete-end : {w₃ : List ℕ} {r : Bool} → Ranked (graph n sources targets) lab b w₂ w₃ r → Completed (graph n sources targets) lab b w w₃ r
+    pub complete-end : {w₃ : List ℕ} {r : Bool} → Ranked (table n sources targets kinds mask) lab b w₂ w₃ r → Completed (table n sources targets kinds mask) lab b w w₃ r
     complete-end {w₃} z =
         record {
           beyond =
@@ -188,17 +189,17 @@ module _ {n : ℕ} {sources targets lab : List ℕ} {b : ℕ} {w w₁ : List ℕ
 module _ {g : Graph} (ok : Valid g) {lab : List ℕ} (right : Right g lab) {d : ℕ → ℕ} (near : Distances g lab d) where
   dist-at : (v : ℕ) → v < g .n → d v ≡ at (distances g lab) v
   unfolding distances
-  dist-at v l = near-is ok lab right v l (d v) (near v l) ∙ sym (getD-table (g .n) (λ v. distOf g (at lab v) v) 0 v l)
+  dist-at v l = near-is ok lab right v l (d v) (near v l) ∙ sym (getD-each (g .n) (λ v. distOf g (at lab v) v) 0 v l)
 
-  entry-at : OwnLabels (g .n) lab → ((e : ℕ) → T (g .counted e)) → ((v : ℕ) → v < g .n → d v < g .n)
+  entry-at : OwnLabels (g .n) lab → ((v : ℕ) → v < g .n → d v < g .n)
       → {edge : ℕ → ℕ} → Entries g lab d edge → (v : ℕ) → v < g .n → edge v ≡ at (entries g lab (distances g lab)) v
   unfolding entries
-  entry-at own counted low {edge} first v l =
-      edge-least ok lab own d near edge first counted (distances g lab) dist-at low v l
-      ∙ sym (getD-table (g .n) (λ v. cond (eqb (at lab v) v) noEdge (least (edges g) (λ e. entry g lab (distances g lab) e v))) 0 v l)
+  entry-at own low {edge} first v l =
+      edge-least ok lab own d near edge first (distances g lab) dist-at low v l
+      ∙ sym (getD-each (g .n) (λ v. cond (eqb (at lab v) v) noEdge (least (edges g) (λ e. entry g lab (distances g lab) e v))) 0 v l)
 
 -- THE CERTIFICATE: distances, entries and ranks that fit one another are those of the certificate, and the labels are right
-module _ {g : Graph} {lab : List ℕ} {b : ℕ} {w w′ : List ℕ} (ok : Valid g) (counted : (e : ℕ) → T (g .counted e)) (few : edges g ≤ mostEdges)
+module _ {g : Graph} {lab : List ℕ} {b : ℕ} {w w′ : List ℕ} (ok : Valid g) (few : edges g ≤ mostEdges)
     (own : OwnLabels (g .n) lab) (x : Near g lab b w) {r : Bool} (y : Completed g lab b w w′ r) where
   abbrev d : ℕ → ℕ
   d = region (inDistances (g .n) b) w
@@ -211,7 +212,7 @@ module _ {g : Graph} {lab : List ℕ} {b : ℕ} {w w′ : List ℕ} (ok : Valid 
     gone = gone-ranks ok lab own d (region (inEdges (g .n) b) w′) (x .there) (y .enters) few (region (ranksAt (g .n) b) w′) p
 
     now-right : Right g lab
-    now-right = labels-right ok counted lab own (region (ranksAt (g .n) b) w′) gone d out (x .there) (x .back)
+    now-right = labels-right ok lab own (region (ranksAt (g .n) b) w′) gone d out (x .there) (x .back)
 
     right-back : Right (rev g) lab
     right-back v l = label-rev (now-right v l)
@@ -219,8 +220,8 @@ module _ {g : Graph} {lab : List ℕ} {b : ℕ} {w w′ : List ℕ} (ok : Valid 
     at-rank : (v : ℕ) → v < g .n → region (ranksAt (g .n) b) w′ v ≡ at (ranks g lab) v
     unfolding ranks
     at-rank v l =
-        rank-right ok counted lab own (region (ranksAt (g .n) b) w′) gone d out (x .there) (x .back) v l
-        ∙ sym (getD-table (g .n) (rankOf g (at lab)) 0 v l)
+        rank-right ok lab own (region (ranksAt (g .n) b) w′) gone d out (x .there) (x .back) v l
+        ∙ sym (getD-each (g .n) (rankOf g (at lab)) 0 v l)
 
     pub now-made : Made g lab b w′
     unfolding certificate
@@ -228,39 +229,36 @@ module _ {g : Graph} {lab : List ℕ} {b : ℕ} {w w′ : List ℕ} (ok : Valid 
         record {
           right = now-right;
           rank = at-rank;
-          inEdge = entry-at ok now-right (x .there) own counted (x .there-low) (y .enters);
+          inEdge = entry-at ok now-right (x .there) own (x .there-low) (y .enters);
           inDist = λ v l. y .kept (inDistances (g .n) b + v) (omega arith) (omega arith) ∙ dist-at ok now-right (x .there) v l;
-          outEdge = entry-at (valid-rev ok) right-back (x .back) own counted (x .back-low) (y .leaves);
+          outEdge = entry-at (valid-rev ok) right-back (x .back) own (x .back-low) (y .leaves);
           outDist = λ v l. y .kept (outDistances (g .n) b + v) (omega arith) (omega arith) ∙ dist-at (valid-rev ok) right-back (x .back) v l;
         }
 
   pub never-stuck : Stuck g lab (region (inEdges (g .n) b) w′) (region (countsAt (g .n) b) w′) → Right g lab → ⊥
-  never-stuck s right = none-stays ok lab own d (region (inEdges (g .n) b) w′) (x .there) (y .enters) few right (region (countsAt (g .n) b) w′) s counted
+  never-stuck s right = none-stays ok lab own d (region (inEdges (g .n) b) w′) (x .there) (y .enters) few right (region (countsAt (g .n) b) w′) s
 
-module _ {n : ℕ} {sources targets lab : List ℕ} {w : List ℕ} (a : WorkAsk (graph n sources targets) lab w) {r : Bool} (o : Owned n lab r) where
-  abbrev t : Graph
-  t = graph n sources targets
-
-  pub work-none : not r ≡ true → Worked t lab (base t) w w false
+module _ {g : Graph} {kinds lab w : List ℕ} (a : WorkAsk g kinds lab w) {r : Bool} (o : Owned (g .n) lab r) where
+  pub work-none : not r ≡ true → Worked g lab (base g) w w false
   work-none q = record { beyond = record { long = refl; rest = λ j l. refl }; either = inr (refl, λ right. unless o q (right-own (a .valid) lab right)) }
 
   module _ (fine : not r ≡ false) where
-    pub find-ask : FindAsk t lab (base t) w
+    pub find-ask : FindAsk g kinds lab (base g) w
     find-ask = record { ask = a; own = when o fine; place = refl }
 
-    module _ {w₁ : List ℕ} {s : Bool} (x : Found t lab (base t) w w₁ s) where
-      pub work-stop : not s ≡ true → Worked t lab (base t) w w₁ false
+    module _ {w₁ : List ℕ} {s : Bool} (x : Found g lab (base g) w w₁ s) where
+      pub work-stop : not s ≡ true → Worked g lab (base g) w w₁ false
       work-stop q = record { beyond = record { long = x .beyond .long; rest = λ j l. x .beyond .rest j (omega arith) }; either = inr (refl, unless (x .either) q) }
 
       module _ (q : not s ≡ false) where
-        near-now : Near t lab (base t) w₁
+        near-now : Near g lab (base g) w₁
         near-now = when (x .either) q
 
-        pub complete-ask : CompleteAsk t lab (base t) w₁
+        pub complete-ask : CompleteAsk g kinds lab (base g) w₁
         complete-ask =
             record {
               valid = a .valid;
-              counts = a .counts;
+              kinded = a .kinded;
               size = a .size;
               own = when o fine;
               small = a .small;
@@ -270,7 +268,7 @@ module _ {n : ℕ} {sources targets lab : List ℕ} {w : List ℕ} (a : WorkAsk 
               room = omega (arith, a .room, x .beyond .long);
             }
 
-        pub work-end : {w₂ : List ℕ} {s : Bool} → Completed t lab (base t) w₁ w₂ s → Worked t lab (base t) w w₂ s
+        pub work-end : {w₂ : List ℕ} {s : Bool} → Completed g lab (base g) w₁ w₂ s → Worked g lab (base g) w w₂ s
         work-end y =
             record {
               beyond =
@@ -280,7 +278,7 @@ module _ {n : ℕ} {sources targets lab : List ℕ} {w : List ℕ} (a : WorkAsk 
                   };
               either =
                   ⊎-elim
-                  (λ (p, z). inl (p, now-made (a .valid) (a .counts) (a .few) (when o fine) near-now y z))
-                  (λ (p, z). inr (p, never-stuck (a .valid) (a .counts) (a .few) (when o fine) near-now y z))
+                  (λ (p, z). inl (p, now-made (a .valid) (a .few) (when o fine) near-now y z))
+                  (λ (p, z). inr (p, never-stuck (a .valid) (a .few) (when o fine) near-now y z))
                   (y .either);
             }

@@ -19,30 +19,38 @@ use Rattle.graph.specs.Refusal.{given, _or_}
 use Rattle.memory.specs.Memory.{ClearAsk, Cleared, Copied}
 use Rattle.graph.specs.Checker.{Columns, Sized, at}
 use Rattle.graph.specs.Certificate.{Right, certificate, ranks, distances, entries}
-use Rattle.graph.proofs.Tests.{T-true, no-T, eq-T, some-below-iff, length-table}
+use Rattle.graph.proofs.Tests.{T-true, no-T, eq-T, some-below-iff, length-each}
 use Rattle.graph.proofs.Search.{label-is, label-eq}
 use Rattle.graph.proofs.Certificate.{right-labels, right-unique}
-use Rattle.graph.proofs.Refusals.{or-stop, or-none, or-most, given-none, given-most, not-lacking, Passed, passed-valid}
+use Rattle.graph.proofs.Refusals.{or-stop, or-none, or-of, given-none, given-of, not-lacking, Passed, table-apart, passed-valid}
 use Rattle.memory.proofs.Memory.{zeroed-after}
 use Rattle.checker.specs.Promise.{checkerRefusal}
-use Rattle.checker.proofs.Laws.{call-most, call-passed, call-ready}
+use Rattle.checker.specs.Promise as checker
+use Rattle.checker.proofs.Laws.{call-passed, call-ready}
 use Rattle.certificate.specs.Work.{base, Beyond, WorkAsk, Made, Worked, HandAsk, Handed}
 use Rattle.classes.proofs.Classing.{clash, when, unless}
-use Rattle.certificate.specs.Promise.{lent, Call, table, columns, checked, wrongLabel, earlyRefusal, writerRefusal, Promise}
+use Rattle.certificate.specs.Promise.{lent, Call, collection, columns, checked, wrongLabel, earlyOn, refusalOn, earlyRefusal, writerRefusal, Promise}
 
--- what a call has that is not refused by 1 to 6
+-- what a call has that is not refused before 10
 pub record Ready (c : Call) : Type 0 where
-  pub passed : Passed (c .n) (c .sources) (c .targets)
+  pub passed : Passed (c .n) (c .sources) (c .targets) (c .kinds)
   pub sized : Sized (c .n) (columns (c .label) (c .lends))
   pub memory : Enough (c .n) (length (c .sources)) (length (c .lends .numbers)) (length (c .lends .words))
 
 module _ (c : Call) where
-  pub early-low : earlyRefusal c ≤ 6
-  unfolding earlyRefusal
-  early-low = or-most _ _ 6 (omega (arith, call-most (checked c (c .lends)))) (given-most 6 _ 6 (omega arith))
+  -- 10 is not given early
+  early-other : earlyRefusal c ≡ wrongLabels → ⊥
+  unfolding earlyOn checker.refusalOn
+  early-other = or-of other _ _ (or-of other _ _ (λ q. omega (arith, table-apart (c .n) (c .sources) (c .targets) (c .kinds) (omega arith))) (low 5 _ (omega arith))) (low 6 _ (omega arith))
+    where
+      other : ℕ → Type 0
+      other k = k ≡ wrongLabels → ⊥
+
+      low : (k : ℕ) (t : Bool) → k < wrongLabels → other (given k t)
+      low k t l = given-of other k t (λ q. omega arith) (λ q. omega arith)
 
   pub early-ready : earlyRefusal c ≡ 0 → Ready c
-  unfolding earlyRefusal
+  unfolding earlyOn
   early-ready e =
       let (e5, e6) = or-none (checkerRefusal (checked c (c .lends))) _ e in
       record {
@@ -52,12 +60,12 @@ module _ (c : Call) where
       }
 
   pub refused-promise : {k : ℕ} → k ≡ earlyRefusal c → (k ≡ 0 → ⊥) → Promise c k (c .lends)
-  unfolding writerRefusal
+  unfolding refusalOn
   refused-promise {k} e o =
       record {
         number = rw (← e, or-stop k _ o);
         written = λ z. absurd (o z);
-        wrong = λ z. absurd (omega (arith, early-low));
+        wrong = λ z. absurd (early-other (sym e ∙ z));
         refused = λ _ _. refl;
       }
 
@@ -68,14 +76,14 @@ module _ (c : Call) where
     ready : Ready c
     ready = early-ready fine
 
-    valid : Valid (table c)
-    valid = passed-valid (c .n) (c .sources) (c .targets) (ready .passed)
+    valid : Valid (collection c)
+    valid = passed-valid (c .n) (c .sources) (c .targets) (c .kinds) (c .mask) (ready .passed)
 
-    pub work-ask : WorkAsk (table c) (c .label) (c .lends .numbers)
+    pub work-ask : WorkAsk (collection c) (c .kinds) (c .label) (c .lends .numbers)
     work-ask =
         record {
           valid = valid;
-          counts = λ e. tt;
+          kinded = ready .passed .kinded;
           size = ready .sized .label;
           small = ready .passed .small;
           few = ready .passed .few;
@@ -103,22 +111,22 @@ module _ (c : Call) where
         }
 
     -- right labels are those that the test lets pass
-    pub right-passes : Right (table c) (c .label) → wrongLabel (table c) (c .label) ≡ false
+    pub right-passes : Right (collection c) (c .label) → wrongLabel (collection c) (c .label) ≡ false
     unfolding wrongLabel
     right-passes right = no-T (some-below (c .n) _) (λ t.
-        let (v, l, s) = some-below-iff (c .n) (λ v. not (eqb (at (c .label) v) (labelOf (table c) v))) .0 t in
-        T-not (eqb (at (c .label) v) (labelOf (table c) v)) s (eq-T _ _ (label-eq valid l (right v l))))
+        let (v, l, s) = some-below-iff (c .n) (λ v. not (eqb (at (c .label) v) (labelOf (collection c) v))) .0 t in
+        T-not (eqb (at (c .label) v) (labelOf (collection c) v)) s (eq-T _ _ (label-eq valid l (right v l))))
 
-    passes-right : wrongLabel (table c) (c .label) ≡ false → Right (table c) (c .label)
+    passes-right : wrongLabel (collection c) (c .label) ≡ false → Right (collection c) (c .label)
     unfolding wrongLabel
-    passes-right q v l = by-cases (ℕ-discrete (at (c .label) v) (labelOf (table c) v))
+    passes-right q v l = by-cases (ℕ-discrete (at (c .label) v) (labelOf (collection c) v))
         (λ z. rw z (label-is valid v l))
-        (λ o. absurd (clash _ (T-true _ (some-below-iff (c .n) (λ v. not (eqb (at (c .label) v) (labelOf (table c) v))) .1 (v, l, rw (ne-eqb (at (c .label) v) (labelOf (table c) v) o) tt))) q))
+        (λ o. absurd (clash _ (T-true _ (some-below-iff (c .n) (λ v. not (eqb (at (c .label) v) (labelOf (collection c) v))) .1 (v, l, rw (ne-eqb (at (c .label) v) (labelOf (collection c) v) o) tt))) q))
 
-    pub wrong-fails : (Right (table c) (c .label) → ⊥) → wrongLabel (table c) (c .label) ≡ true
-    wrong-fails o = go (wrongLabel (table c) (c .label)) refl
+    pub wrong-fails : (Right (collection c) (c .label) → ⊥) → wrongLabel (collection c) (c .label) ≡ true
+    wrong-fails o = go (wrongLabel (collection c) (c .label)) refl
       where
-        go : (b : Bool) → wrongLabel (table c) (c .label) ≡ b → wrongLabel (table c) (c .label) ≡ true
+        go : (b : Bool) → wrongLabel (collection c) (c .label) ≡ b → wrongLabel (collection c) (c .label) ≡ true
         go true q = q
         go false q = absurd (o (passes-right q))
 
@@ -127,10 +135,10 @@ module _ (c : Call) where
         → Cleared (c .n) (length (c .sources)) (c .lends .numbers) w′ (c .lends .words) words′
     tidy w w′ words′ f x = record { numbers-zero = zeroed-after (f .long) (f .rest) (x .numbers-zero); words-zero = x .words-zero }
 
-    pub wrong-promise : {r : Bool} {w w′ words′ : List ℕ} → Worked (table c) (c .label) (base (table c)) (c .lends .numbers) w r → not r ≡ true
+    pub wrong-promise : {r : Bool} {w w′ words′ : List ℕ} → Worked (collection c) (c .label) (base (collection c)) (c .lends .numbers) w r → not r ≡ true
         → Cleared (c .n) (length (c .sources)) w w′ (c .lends .words) words′
         → Promise c wrongLabels (lent (c .lends .rank) (c .lends .inEdge) (c .lends .inDist) (c .lends .outEdge) (c .lends .outDist) w′ words′)
-    unfolding writerRefusal given _or_
+    unfolding refusalOn given _or_
     wrong-promise {w = w} {w′} {words′} x f z =
         record {
           number = rw (fine, wrong-fails (unless (x .either) f));
@@ -151,22 +159,22 @@ module _ (c : Call) where
     column-same w a column column′ wanted p q x f = ext-getD 0 column′ wanted (x .long ∙ p ∙ sym q) (λ v l. x .each v (omega (arith, x .long)) ∙ f v (omega (arith, x .long)))
 
     pub done-promise : {r : Bool} {w w′ words′ rank′ inEdge′ inDist′ outEdge′ outDist′ : List ℕ}
-        → Worked (table c) (c .label) (base (table c)) (c .lends .numbers) w r → not r ≡ false
-        → Handed (c .n) (base (table c)) w (c .lends .rank) rank′ (c .lends .inEdge) inEdge′ (c .lends .inDist) inDist′ (c .lends .outEdge) outEdge′ (c .lends .outDist) outDist′
+        → Worked (collection c) (c .label) (base (collection c)) (c .lends .numbers) w r → not r ≡ false
+        → Handed (c .n) (base (collection c)) w (c .lends .rank) rank′ (c .lends .inEdge) inEdge′ (c .lends .inDist) inDist′ (c .lends .outEdge) outEdge′ (c .lends .outDist) outDist′
         → Cleared (c .n) (length (c .sources)) w w′ (c .lends .words) words′
         → Promise c 0 (lent rank′ inEdge′ inDist′ outEdge′ outDist′ w′ words′)
-    unfolding writerRefusal given _or_ certificate ranks distances entries
+    unfolding refusalOn given _or_ certificate ranks distances entries
     done-promise {w = w} {w′} {words′} {rank′} {inEdge′} {inDist′} {outEdge′} {outDist′} x f h z =
-        let made : Made (table c) (c .label) (base (table c)) w = when (x .either) f in
+        let made : Made (collection c) (c .label) (base (collection c)) w = when (x .either) f in
         record {
           number = rw (fine, right-passes (made .right));
           written = λ q. (
             columns-same
-                (column-same w _ (c .lends .rank) rank′ _ (ready .sized .rank) (length-table (c .n) _) (h .to-rank) (made .rank))
-                (column-same w _ (c .lends .inEdge) inEdge′ _ (ready .sized .inEdge) (length-table (c .n) _) (h .to-inEdge) (made .inEdge))
-                (column-same w _ (c .lends .inDist) inDist′ _ (ready .sized .inDist) (length-table (c .n) _) (h .to-inDist) (made .inDist))
-                (column-same w _ (c .lends .outEdge) outEdge′ _ (ready .sized .outEdge) (length-table (c .n) _) (h .to-outEdge) (made .outEdge))
-                (column-same w _ (c .lends .outDist) outDist′ _ (ready .sized .outDist) (length-table (c .n) _) (h .to-outDist) (made .outDist)),
+                (column-same w _ (c .lends .rank) rank′ _ (ready .sized .rank) (length-each (c .n) _) (h .to-rank) (made .rank))
+                (column-same w _ (c .lends .inEdge) inEdge′ _ (ready .sized .inEdge) (length-each (c .n) _) (h .to-inEdge) (made .inEdge))
+                (column-same w _ (c .lends .inDist) inDist′ _ (ready .sized .inDist) (length-each (c .n) _) (h .to-inDist) (made .inDist))
+                (column-same w _ (c .lends .outEdge) outEdge′ _ (ready .sized .outEdge) (length-each (c .n) _) (h .to-outEdge) (made .outEdge))
+                (column-same w _ (c .lends .outDist) outDist′ _ (ready .sized .outDist) (length-each (c .n) _) (h .to-outDist) (made .outDist)),
             tidy w w′ words′ (x .beyond) z,
           );
           wrong = λ q. absurd (omega arith);
@@ -174,24 +182,24 @@ module _ (c : Call) where
         }
 
 -- what the number 0 says of the call
-pub ready-of : (c : Call) → writerRefusal c ≡ 0 → Valid (table c) × (length (c .label) ≡ c .n)
-unfolding writerRefusal
-ready-of c e = let r = early-ready c (or-none (earlyRefusal c) _ e .0) in (passed-valid (c .n) (c .sources) (c .targets) (r .passed), r .sized .label)
+pub ready-of : (c : Call) → writerRefusal c ≡ 0 → Valid (collection c) × (length (c .label) ≡ c .n)
+unfolding refusalOn
+ready-of c e = let r = early-ready c (or-none (earlyRefusal c) _ e .0) in (passed-valid (c .n) (c .sources) (c .targets) (c .kinds) (c .mask) (r .passed), r .sized .label)
 
-pub right-of : (c : Call) → writerRefusal c ≡ 0 → Right (table c) (c .label)
-unfolding writerRefusal
+pub right-of : (c : Call) → writerRefusal c ≡ 0 → Right (collection c) (c .label)
+unfolding refusalOn
 right-of c e = let (p, q) = or-none (earlyRefusal c) _ e in passes-right c refl p (given-none 10 _ (suc-ne-zero 9) q)
 
--- what the label column says of the number, where the tests 1 to 6 pass
-pub right-none : (c : Call) → earlyRefusal c ≡ 0 → c .label ≡ labels (table c) → writerRefusal c ≡ 0
-unfolding writerRefusal given _or_
+-- what the label column says of the number, where the tests before 10 pass
+pub right-none : (c : Call) → earlyRefusal c ≡ 0 → c .label ≡ labels (collection c) → writerRefusal c ≡ 0
+unfolding refusalOn given _or_
 right-none c e q =
-    let ok = passed-valid (c .n) (c .sources) (c .targets) (early-ready c e .passed) in
+    let ok = passed-valid (c .n) (c .sources) (c .targets) (c .kinds) (c .mask) (early-ready c e .passed) in
     rw (e, right-passes c refl e (rw q (right-labels ok)))
 
-pub other-ten : (c : Call) → earlyRefusal c ≡ 0 → (c .label ≡ labels (table c) → ⊥) → writerRefusal c ≡ wrongLabels
-unfolding writerRefusal given _or_
+pub other-ten : (c : Call) → earlyRefusal c ≡ 0 → (c .label ≡ labels (collection c) → ⊥) → writerRefusal c ≡ wrongLabels
+unfolding refusalOn given _or_
 other-ten c e o =
     let r = early-ready c e in
-    let ok = passed-valid (c .n) (c .sources) (c .targets) (r .passed) in
+    let ok = passed-valid (c .n) (c .sources) (c .targets) (c .kinds) (c .mask) (r .passed) in
     rw (e, wrong-fails c refl e (λ right. o (right-unique ok (c .label) (r .sized .label) right)))

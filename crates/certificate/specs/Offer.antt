@@ -5,21 +5,22 @@ use mathlib.Core.Bool.{true, false}
 use mathlib.Core.List.{List}
 use mathlib.Core.Logic.{_⊎_}
 use lib.ListN.{length, set}
-use Rattle.graph.specs.Graph.{Graph, Valid, edges, from, to}
+use Rattle.graph.specs.Graph.{Graph, Kinds, Valid, edges, from, to}
 use Rattle.graph.specs.Limits.{mostEdges}
 use Rattle.memory.specs.Memory.{Framed, region, Holds}
 use Rattle.certificate.specs.Entries.{fits, Entries}
 
 -- distances stand from d on, entries go to the region from b on
-pub record EntriesAsk (g : Graph) (lab : List ℕ) (d b : ℕ) (w : List ℕ) : Type 0 where
+pub record EntriesAsk (g : Graph) (kinds lab : List ℕ) (d b : ℕ) (w : List ℕ) : Type 0 where
   pub valid : Valid g
+  pub kinded : Kinds (edges g) kinds
   pub size : length lab ≡ g .n
   pub few : edges g ≤ mostEdges
   pub apart : d + g .n ≤ b
   pub room : b + g .n ≤ length w
 
-pub record OfferAsk (g : Graph) (lab : List ℕ) (d b e : ℕ) (w : List ℕ) : Type 0 where
-  pub ask : EntriesAsk g lab d b w
+pub record OfferAsk (g : Graph) (kinds lab : List ℕ) (d b e : ℕ) (w : List ℕ) : Type 0 where
+  pub ask : EntriesAsk g kinds lab d b w
   pub low : e < edges g
   pub leaves : from g e < g .n
   pub enters : to g e < g .n

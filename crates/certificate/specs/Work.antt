@@ -5,8 +5,7 @@ use mathlib.Core.Bool.{Bool, true, false}
 use mathlib.Core.List.{List}
 use mathlib.Core.Logic.{_⊎_}
 use lib.ListN.{length, getD}
-use lib.Dec.{T}
-use Rattle.graph.specs.Graph.{Graph, Valid, rev, edges}
+use Rattle.graph.specs.Graph.{Graph, Kinds, Valid, rev, edges}
 use Rattle.graph.specs.Limits.{mostVertices, mostEdges, InLimits, numbersNeeded}
 use Rattle.graph.specs.Checker.{at}
 use Rattle.graph.specs.Certificate.{Right, certificate}
@@ -26,16 +25,16 @@ pub record Beyond (k : ℕ) (w w' : List ℕ) : Type 0 where
   pub long : length w' ≡ length w
   pub rest : (j : ℕ) → k ≤ j → getD w' j 0 ≡ getD w j 0
 
-pub record WorkAsk (g : Graph) (lab : List ℕ) (w : List ℕ) : Type 0 where
+pub record WorkAsk (g : Graph) (kinds lab : List ℕ) (w : List ℕ) : Type 0 where
   pub valid : Valid g
-  pub counts : (e : ℕ) → T (g .counted e)
+  pub kinded : Kinds (edges g) kinds
   pub size : length lab ≡ g .n
   pub small : g .n ≤ mostVertices
   pub few : edges g ≤ mostEdges
   pub room : numbersNeeded (g .n) (edges g) ≤ length w
 
-pub record FindAsk (g : Graph) (lab : List ℕ) (b : ℕ) (w : List ℕ) : Type 0 where
-  pub ask : WorkAsk g lab w
+pub record FindAsk (g : Graph) (kinds lab : List ℕ) (b : ℕ) (w : List ℕ) : Type 0 where
+  pub ask : WorkAsk g kinds lab w
   pub own : OwnLabels (g .n) lab
   pub place : b ≡ base g
 
@@ -51,9 +50,9 @@ pub record Found (g : Graph) (lab : List ℕ) (b : ℕ) (w w' : List ℕ) (r : B
   pub beyond : Beyond (inEdges (g .n) b) w w'
   pub either : ((r ≡ true) × Near g lab b w') ⊎ ((r ≡ false) × (Right g lab → ⊥))
 
-pub record CompleteAsk (g : Graph) (lab : List ℕ) (b : ℕ) (w : List ℕ) : Type 0 where
+pub record CompleteAsk (g : Graph) (kinds lab : List ℕ) (b : ℕ) (w : List ℕ) : Type 0 where
   pub valid : Valid g
-  pub counts : (e : ℕ) → T (g .counted e)
+  pub kinded : Kinds (edges g) kinds
   pub size : length lab ≡ g .n
   pub own : OwnLabels (g .n) lab
   pub small : g .n ≤ mostVertices

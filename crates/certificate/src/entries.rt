@@ -1,22 +1,28 @@
-// In-edges: for each vertex the smallest edge that enters it from one step nearer to its label.
-ghost use Rattle.graph.specs.Graph.{graph};
+// In-edges: for each vertex the smallest counted edge that enters it from one step nearer to its label.
+ghost use Rattle.graph.specs.Graph.{table};
 ghost use Rattle.certificate.specs.Offer.{OfferAsk, Offered, EntriesAsk, Entered};
 use checker::NO_EDGE;
+use graph::table;
 
-// Edge e becomes the entry of the vertex that it enters, if it fits the distances, which stand in w from d on.
+// Edge e becomes the entry of the vertex that it enters, if it counts and fits the distances, which stand in w from d on.
 fn offer(
     n: usize,
     sources: &[u32],
     targets: &[u32],
+    kinds: &[u8],
+    mask: u8,
     label: &[u32],
     w: &mut [u32],
     d: usize,
     b: usize,
     e: usize,
 )
-    requires { ⌜ OfferAsk (graph n (now sources) (now targets)) (now label) d b e (now w) ⌝ }
-    ensures { λ _. ⌜ Offered (graph n (now (sources .entry)) (now (targets .entry))) (now (label .entry)) d b e (now (w .entry)) (now (w .exit)) ⌝ }
+    requires { ⌜ OfferAsk (table n (now sources) (now targets) (now kinds) mask) (now kinds) (now label) d b e (now w) ⌝ }
+    ensures { λ _. ⌜ Offered (table n (now (sources .entry)) (now (targets .entry)) (now (kinds .entry)) mask) (now (label .entry)) d b e (now (w .entry)) (now (w .exit)) ⌝ }
 {
+    if table::counted(kinds, mask, e) == 0 {
+        return;
+    }
     let u = sources[e] as usize;
     let v = targets[e] as usize;
     if label[u] != label[v] {
@@ -35,18 +41,20 @@ pub fn entries(
     n: usize,
     sources: &[u32],
     targets: &[u32],
+    kinds: &[u8],
+    mask: u8,
     label: &[u32],
     w: &mut [u32],
     d: usize,
     b: usize,
 )
-    requires { ⌜ EntriesAsk (graph n (now sources) (now targets)) (now label) d b (now w) ⌝ }
-    ensures { λ _. ⌜ Entered (graph n (now (sources .entry)) (now (targets .entry))) (now (label .entry)) d b (now (w .entry)) (now (w .exit)) ⌝ }
+    requires { ⌜ EntriesAsk (table n (now sources) (now targets) (now kinds) mask) (now kinds) (now label) d b (now w) ⌝ }
+    ensures { λ _. ⌜ Entered (table n (now (sources .entry)) (now (targets .entry)) (now (kinds .entry)) mask) (now (label .entry)) d b (now (w .entry)) (now (w .exit)) ⌝ }
 {
     memory::fill(w, b, n, NO_EDGE);
     let mut e = sources.len();
     while 0 < e {
         e -= 1;
-        offer(n, sources, targets, label, w, d, b, e);
+        offer(n, sources, targets, kinds, mask, label, w, d, b, e);
     }
 }

@@ -1,6 +1,6 @@
 // The certificate writer: it reads the labels and fills the other five columns.
 ghost use mathlib.Core.Path.{_≡_};
-ghost use Prim.Native.Nat.{_+_, _*_};
+ghost use Prim.Native.Nat.{ℕ, _+_, _*_};
 ghost use Rattle.certificate.specs.Work.{HandAsk, Handed};
 ghost use Rattle.certificate.specs.Promise.{lent, call, earlyRefusal, Promise};
 use graph::limits;
@@ -11,11 +11,12 @@ use memory::writer::RANKS;
 mod entries;
 mod work;
 
-// The first of 1 to 6 that applies, else 0.
+// The first of 1, 2, 21, 3, 4, 22, 5, 6 that applies, else 0, whatever the mask.
 fn refusal(
     n: usize,
     sources: &[u32],
     targets: &[u32],
+    kinds: &[u8],
     label: &[u32],
     rank: &[u32],
     in_edge: &[u32],
@@ -25,12 +26,13 @@ fn refusal(
     numbers: &[u32],
     words: &[u64],
 ) -> u32
-    ensures { λ r. ⌜ r ≡ earlyRefusal (call n (now (sources .entry)) (now (targets .entry)) (now (label .entry)) (lent (now (rank .entry)) (now («in_edge» .entry)) (now («in_distance» .entry)) (now («out_edge» .entry)) (now («out_distance» .entry)) (now (numbers .entry)) (now (words .entry)))) ⌝ }
+    ensures { λ r. ⌜ ((mask : ℕ) → r ≡ earlyRefusal (call n (now (sources .entry)) (now (targets .entry)) (now (kinds .entry)) mask (now (label .entry)) (lent (now (rank .entry)) (now («in_edge» .entry)) (now («in_distance» .entry)) (now («out_edge» .entry)) (now («out_distance» .entry)) (now (numbers .entry)) (now (words .entry))))) ⌝ }
 {
     let k = checker::refusal(
         n,
         sources,
         targets,
+        kinds,
         label,
         rank,
         in_edge,
@@ -69,11 +71,13 @@ fn hand(
     memory::copy(numbers, b + n, out_distance);
 }
 
-// Five columns from the labels: shortest distances from and to the label, the smallest edges that fit them, the ranks. The number returned.
+// Five columns from the labels: shortest distances from and to the label, the smallest counted edges that fit them, the ranks. The number returned.
 pub fn write(
     n: usize,
     sources: &[u32],
     targets: &[u32],
+    kinds: &[u8],
+    mask: u8,
     label: &[u32],
     rank: &mut [u32],
     in_edge: &mut [u32],
@@ -83,12 +87,13 @@ pub fn write(
     numbers: &mut [u32],
     words: &mut [u64],
 ) -> u32
-    ensures { λ r. ⌜ Promise (call n (now (sources .entry)) (now (targets .entry)) (now (label .entry)) (lent (now (rank .entry)) (now («in_edge» .entry)) (now («in_distance» .entry)) (now («out_edge» .entry)) (now («out_distance» .entry)) (now (numbers .entry)) (now (words .entry)))) r (lent (now (rank .exit)) (now («in_edge» .exit)) (now («in_distance» .exit)) (now («out_edge» .exit)) (now («out_distance» .exit)) (now (numbers .exit)) (now (words .exit))) ⌝ }
+    ensures { λ r. ⌜ Promise (call n (now (sources .entry)) (now (targets .entry)) (now (kinds .entry)) mask (now (label .entry)) (lent (now (rank .entry)) (now («in_edge» .entry)) (now («in_distance» .entry)) (now («out_edge» .entry)) (now («out_distance» .entry)) (now (numbers .entry)) (now (words .entry)))) r (lent (now (rank .exit)) (now («in_edge» .exit)) (now («in_distance» .exit)) (now («out_edge» .exit)) (now («out_distance» .exit)) (now (numbers .exit)) (now (words .exit))) ⌝ }
 {
     let k = refusal(
         n,
         sources,
         targets,
+        kinds,
         label,
         rank,
         in_edge,
@@ -102,7 +107,7 @@ pub fn write(
         return k;
     }
     let m = sources.len();
-    if !work::work(n, sources, targets, label, numbers) {
+    if !work::work(n, sources, targets, kinds, mask, label, numbers) {
         memory::clear(n, m, numbers, words);
         return limits::WRONG_LABELS;
     }

@@ -1,3 +1,4 @@
+use Prim.Native.Nat.{ℕ}
 use Rattle.certificate.proofs.Writing.{refused-promise, work-ask, clear-ask, hand-ask, wrong-promise, done-promise}
 use native.Mathlib.Omega.{arith}
 use borrow.Author.Needs.{needs}
@@ -10,6 +11,16 @@ tested c = c .before .before .before
 
 abbrev worked : tie.Else2 → tie.After-work
 worked c = c .before .before .before
+
+-- the call's mask, seen from the test: before it the slices to be written, and before them those only read
+abbrev writes : tie.After-refusal → tie.After-slice-known7
+writes c = c .before .before .before .before .before .before .before .before
+
+abbrev reads : tie.After-refusal → tie.After-shared-slice-known4
+reads c = writes c .before .before .before .before .before .before .before
+
+abbrev mask : tie.After-refusal → ℕ
+mask c = reads c .before .before .before .before .args .mask
 
 -- where the labels are right, seen from where every column is lent; `lent` is half way, where `in_edge` is
 abbrev lent : tie.After-hand-arg6 → tie.After-hand-arg3
@@ -29,29 +40,33 @@ abbrev handed : tie.After-clear-arg4 → tie.After-hand
 handed c = in-edge (out-edge c) .before .before .before .before
 
 returns : tie.Need-returns
-returns c = search refused-promise
+returns c = refused-promise _ (c .before .refusal .ensures (mask (c .before))) (c .if1 .taken)
 
 work-requires : tie.Need-work-requires
-work-requires c κs = work-ask _ (c .before .before .refusal .ensures) (c .before .if1 .left)
+work-requires c κs = work-ask _ (c .before .before .refusal .ensures (mask (c .before .before))) (c .before .if1 .left)
 
 clear-requires : tie.Need-clear-requires
-clear-requires c κs = let wrong = c .before .before in let x = wrong .before .before .before in clear-ask _ (tested x .refusal .ensures) (x .before .before .if1 .left) (x .work .ensures .beyond .long) (omega arith) (omega arith)
+clear-requires c κs = let wrong = c .before .before in let x = wrong .before .before .before in clear-ask _ (tested x .refusal .ensures (mask (tested x))) (x .before .before .if1 .left) (x .work .ensures .beyond .long) (omega arith) (omega arith)
 
 returns-2 : tie.Need-returns-2
-returns-2 c = search wrong-promise
+returns-2 c =
+    let z = c .before .before .before .before in
+    let wrong = z .before .before .before in
+    let x = wrong .before .before .before in
+    wrong-promise _ (tested x .refusal .ensures (mask (tested x))) (x .before .before .if1 .left) (x .work .ensures) (wrong .if2 .taken) (z .clear .ensures)
 
 hand-requires : tie.Need-hand-requires
-hand-requires c κs = let x = worked (right c) in hand-ask _ (tested x .refusal .ensures) (x .before .before .if1 .left) (x .work .ensures .beyond .long)
+hand-requires c κs = let x = worked (right c) in hand-ask _ (tested x .refusal .ensures (mask (tested x))) (x .before .before .if1 .left) (x .work .ensures .beyond .long)
 
 clear-requires-2 : tie.Need-clear-requires-2
-clear-requires-2 c κs = let x = worked (right (handed c .before)) in clear-ask _ (tested x .refusal .ensures) (x .before .before .if1 .left) (x .work .ensures .beyond .long) (omega arith) (omega arith)
+clear-requires-2 c κs = let x = worked (right (handed c .before)) in clear-ask _ (tested x .refusal .ensures (mask (tested x))) (x .before .before .if1 .left) (x .work .ensures .beyond .long) (omega arith) (omega arith)
 
 returns-3 : tie.Need-returns-3
 returns-3 c =
     let z = c .before .before .before .before in
     let h = handed (z .before) in
     let x = worked (right (h .before)) in
-    done-promise _ (tested x .refusal .ensures) (x .before .before .if1 .left) (x .work .ensures) (right (h .before) .if2 .left) (h .hand .ensures) (z .clear2 .ensures)
+    done-promise _ (tested x .refusal .ensures (mask (tested x))) (x .before .before .if1 .left) (x .work .ensures) (right (h .before) .if2 .left) (h .hand .ensures) (z .clear2 .ensures)
 
 pub write-spec : {M : Type 1} → statement M
 write-spec =

@@ -1,6 +1,6 @@
 use Prim.Native.Nat.{_≤_}
 use lib.ListN.{length}
-use Rattle.graph.specs.Graph.{graph}
+use Rattle.graph.specs.Graph.{table}
 use Rattle.certificate.specs.Offer.{EntriesAsk}
 use Rattle.certificate.proofs.Offering.{Offers, entries-kept, offered-kept, offer-ask, offers-none, offers-step, offers-all}
 use borrow.Author.Needs.{needs}
@@ -9,11 +9,11 @@ use Rattle.certificate.proofs.entries.entries.Statement.{statement}
 use Rattle.certificate.proofs.entries.entries.Tie as tie
 
 abbrev Inv-loop : tie.InvT-loop
-Inv-loop n sources targets label w₀ d b e₀ w e =
-    (e ≤ length sources) × EntriesAsk (graph n sources targets) label d b w × Offers (graph n sources targets) label d b e w₀ w
+Inv-loop n sources targets kinds mask label w₀ d b e₀ w e =
+    (e ≤ length sources) × EntriesAsk (table n sources targets kinds mask) kinds label d b w × Offers (table n sources targets kinds mask) label d b e w₀ w
 
 abbrev μ-loop : tie.MeasureT-loop
-μ-loop n sources targets label w₀ d b e₀ w e = e
+μ-loop n sources targets kinds mask label w₀ d b e₀ w e = e
 
 loop-holds : tie.Need-loop-holds Inv-loop μ-loop
 loop-holds c = (omega arith, search entries-kept, search offers-none)

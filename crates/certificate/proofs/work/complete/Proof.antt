@@ -3,7 +3,7 @@ use borrow.Author.Needs.{needs}
 use Rattle.certificate.proofs.work.complete.Statement.{statement}
 use Rattle.certificate.proofs.work.complete.Tie as tie
 
-abbrev start : tie.After-slice-known → tie.Start
+abbrev start : tie.After-shared-slice-known4 → tie.Start
 start c = c .before .before .before .before
 
 entries-requires : tie.Need-entries-requires
@@ -16,7 +16,8 @@ ranks-requires : tie.Need-ranks-requires
 ranks-requires c κs =
     let y = c .before .before .before in
     let x = y .before .before .before .before in
-    ranks-ask (start (x .before .before) .pre) (x .entries .ensures) (y .entries2 .ensures)
+    let s = start (x .before .before .before) in
+    ranks-ask (s .args .mask) (s .pre) (x .entries .ensures) (y .entries2 .ensures)
 
 returns : tie.Need-returns
 returns c = search complete-end

@@ -3,6 +3,9 @@ use borrow.Author.Needs.{needs}
 use Rattle.certificate.proofs.work.work.Statement.{statement}
 use Rattle.certificate.proofs.work.work.Tie as tie
 
+abbrev start : tie.After-shared-slice-known4 → tie.Start
+start c = c .before .before .before .before
+
 returns : tie.Need-returns
 returns c = search work-none
 
@@ -16,7 +19,10 @@ same-length : tie.Need-same-length
 same-length c = returns-2 c .beyond .long
 
 complete-requires : tie.Need-complete-requires
-complete-requires c κs = search complete-ask
+complete-requires c κs =
+    let f = c .before .before .before .before in
+    let o = f .before .before .before in
+    complete-ask (start (o .before .before) .pre) (o .own-labels .ensures) (f .before .before .if1 .left) (f .find .ensures) (c .before .if2 .left)
 
 returns-3 : tie.Need-returns-3
 returns-3 c = search work-end
