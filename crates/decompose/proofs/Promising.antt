@@ -8,7 +8,7 @@ use mathlib.Core.Logic.{_⊎_, inl, inr}
 use mathlib.Core.List.{List, []}
 use lib.ListN.{length, getD, replicate}
 use lib.Dec.{T, eqb, ltb, leb, eqb→eq, leb→le}
-use Rattle.graph.specs.Graph.{Graph, Valid, IsLabel, graph}
+use Rattle.graph.specs.Graph.{Graph, Valid, IsLabel, table}
 use Rattle.graph.specs.Numbers.{many}
 use Rattle.memory.specs.Memory.{ClearAsk}
 use Rattle.graph.specs.Pivot.{draws}
@@ -42,9 +42,9 @@ use Rattle.decompose.proofs.Starting.{rings-begin}
 use Rattle.decompose.proofs.Coursing.{drawn-first, course-same, apart-unlisted, apart-none}
 
 -- the machine before its first turn
-module _ {n : ℕ} {src tgt : List ℕ} {method order : ℕ} {c : Chooser} {list num wor num' wor' : List ℕ} {lab parts len len' : ℕ}
-    (a : Accepted n src tgt method order (c .kind) lab parts len len') (p : 0 < n) (st : Started (graph n src tgt) (c .kind) list num wor num' wor') (e : len ≡ length num) (ys : List Part) (l : n ≤ length ys) where
-  pub begun-running : Running (graph n src tgt) c ys num' wor' (aimed n (firstOne n method order c))
+module _ {n : ℕ} {src tgt kinds : List ℕ} {method order : ℕ} {c : Chooser} {list num wor num' wor' : List ℕ} {lab parts len len' : ℕ} (mask : ℕ)
+    (a : Accepted n src tgt kinds method order (c .kind) lab parts len len') (p : 0 < n) (st : Started (table n src tgt kinds mask) (c .kind) list num wor num' wor') (e : len ≡ length num) (ys : List Part) (l : n ≤ length ys) where
+  pub begun-running : Running (table n src tgt kinds mask) c ys num' wor' (aimed n (firstOne n method order c))
   unfolding goes aim draws
   begun-running =
       record {
@@ -58,13 +58,13 @@ module _ {n : ℕ} {src tgt : List ℕ} {method order : ℕ} {c : Chooser} {list
         early = λ q. refl;
         zeros = λ j h. absurd (not-suc-le-zero h);
         flags = λ i h. absurd (not-suc-le-zero h);
-        whole = elim (ℕ-discrete (firstOne n method order c .slicing) 0) as (λ _. (firstOne n method order c .slicing ≡ 0) ⊎ Unsliced n (base (graph n src tgt)) ys num' (aimed n (firstOne n method order c))) [
+        whole = elim (ℕ-discrete (firstOne n method order c .slicing) 0) as (λ _. (firstOne n method order c .slicing ≡ 0) ⊎ Unsliced n (base (table n src tgt kinds mask)) ys num' (aimed n (firstOne n method order c))) [
           | yes q ↦ inl q
           | no q ↦ inr (record { one = omega (arith, a .known-method); alone = refl; whole = st .whole; made = refl })
         ];
-        waits = waits-same (st .waits) (firstOf n (base (graph n src tgt)) ys num' (aimed n (firstOne n method order c))) same;
+        waits = waits-same (st .waits) (firstOf n (base (table n src tgt kinds mask)) ys num' (aimed n (firstOne n method order c))) same;
         blank = st .blank;
-        drawn = λ q. rings-begin (graph n src tgt) (base (graph n src tgt)) num' (st .whole .colours);
+        drawn = λ q. rings-begin (table n src tgt kinds mask) (base (table n src tgt kinds mask)) num' (st .whole .colours);
         still = λ q. refl;
         most = omega arith;
         kind = refl;
@@ -73,26 +73,26 @@ module _ {n : ℕ} {src tgt : List ℕ} {method order : ℕ} {c : Chooser} {list
         reading = refl;
       }
     where
-      same : (i : ℕ) → i < 1 → firstOf n (base (graph n src tgt)) ys num' (aimed n (firstOne n method order c)) i ≡ head n (base (graph n src tgt)) num' i
+      same : (i : ℕ) → i < 1 → firstOf n (base (table n src tgt kinds mask)) ys num' (aimed n (firstOne n method order c)) i ≡ head n (base (table n src tgt kinds mask)) num' i
       same i h = let x : i ≡ 0 = omega arith in rw x refl
 
   -- the course begins with the whole
-  begun-traced : Traced (graph n src tgt) method c list ys num' (aimed n (firstOne n method order c))
+  begun-traced : Traced (table n src tgt kinds mask) method c list ys num' (aimed n (firstOne n method order c))
   begun-traced =
       record {
         known = a .known-kind;
         order = st .order;
         choices = 0;
-        course = whole (st .whole .colours) (st .whole .colours (ord n (base (graph n src tgt)) num' (head n (base (graph n src tgt)) num' 0)) (st .order .low (head n (base (graph n src tgt)) num' 0) (st .waits .first 0 (omega arith) .low)));
+        course = whole (st .whole .colours) (st .whole .colours (ord n (base (table n src tgt kinds mask)) num' (head n (base (table n src tgt kinds mask)) num' 0)) (st .order .low (head n (base (table n src tgt kinds mask)) num' 0) (st .waits .first 0 (omega arith) .low)));
         drawn = drawn-first (eqb (c .kind) 1);
       }
 
 -- the drive may begin
-pub begun-drive : {n : ℕ} {src tgt : List ℕ} {method order : ℕ} {c : Chooser} {list : List ℕ} {lab : ℕ} {num wor num' wor' : List ℕ} {s : Machine} {ys : List Part}
-    → Begun n src tgt method order c list (length ys) lab num wor num' wor' s → DriveAsk (graph n src tgt) ys num' wor' s
+pub begun-drive : {n : ℕ} {src tgt kinds : List ℕ} {mask method order : ℕ} {c : Chooser} {list : List ℕ} {lab : ℕ} {num wor num' wor' : List ℕ} {s : Machine} {ys : List Part}
+    → Begun n src tgt kinds mask method order c list (length ys) lab num wor num' wor' s → DriveAsk (table n src tgt kinds mask) ys num' wor' s
 begun-drive (refused h) = record { ready = λ g. absurd (not-suc-le-zero g) }
 begun-drive (nothing z e) = record { ready = λ g. absurd (not-suc-le-zero g) }
-begun-drive {ys = ys} (begun z p st) = let a = accepted z in record { ready = λ g. begun-running a p st refl ys (a .waiting) }
+begun-drive {mask = mask} {ys = ys} (begun z p st) = let a = accepted z in record { ready = λ g. begun-running mask a p st refl ys (a .waiting) }
 
 -- the lengths of lent memory stay, and so does the refusal
 pub record Lengths (num wor num' wor' : List ℕ) (s e : Machine) : Type 0 where
@@ -111,12 +111,12 @@ pub record Accepting (n m : ℕ) (lab num wor num₁ wor₁ : List ℕ) (s : Mac
 clear-same : {n m : ℕ} {num wor num₁ wor₁ : List ℕ} → ClearAsk n m num wor → length num₁ ≡ length num → length wor₁ ≡ length wor → ClearAsk n m num₁ wor₁
 clear-same a p q = record { limits = a .limits; enough = record { numbers = omega (arith, a .enough .numbers); words = omega (arith, a .enough .words) } }
 
-accepted-clear : {n : ℕ} {src tgt : List ℕ} {method order kind lab parts len len' : ℕ} {num wor : List ℕ}
-    → Accepted n src tgt method order kind lab parts len len' → length num ≡ len → length wor ≡ len' → ClearAsk n (length src) num wor
+accepted-clear : {n : ℕ} {src tgt kinds : List ℕ} {method order kind lab parts len len' : ℕ} {num wor : List ℕ}
+    → Accepted n src tgt kinds method order kind lab parts len len' → length num ≡ len → length wor ≡ len' → ClearAsk n (length src) num wor
 accepted-clear a p q = record { limits = record { small = a .small; few = a .few }; enough = record { numbers = omega (arith, a .memory .numbers); words = omega (arith, a .memory .words) } }
 
-accepting : {n : ℕ} {src tgt : List ℕ} {method order : ℕ} {c : Chooser} {list lab : List ℕ} {parts : ℕ} {num wor num₁ wor₁ : List ℕ} {s : Machine}
-    → Begun n src tgt method order c list parts (length lab) num wor num₁ wor₁ s → Accepting n (length src) lab num wor num₁ wor₁ s
+accepting : {n : ℕ} {src tgt kinds : List ℕ} {mask method order : ℕ} {c : Chooser} {list lab : List ℕ} {parts : ℕ} {num wor num₁ wor₁ : List ℕ} {s : Machine}
+    → Begun n src tgt kinds mask method order c list parts (length lab) num wor num₁ wor₁ s → Accepting n (length src) lab num wor num₁ wor₁ s
 accepting (refused h) = record { room = λ z. absurd (h z) }
 accepting (nothing q e) = let a = accepted q in record { room = λ z. record { label = a .label; memory = accepted-clear a refl refl } }
 accepting (begun q p st) =
@@ -126,8 +126,8 @@ ended-ask : {n m : ℕ} {lab num wor num₁ wor₁ num₂ wor₂ : List ℕ} {s 
 ended-ask a x =
     record { room = λ z. let r = a .room (sym (x .refusal) ∙ z) in record { label = r .label; memory = clear-same (r .memory) (x .numbers) (x .words) } }
 
-pub driven-finish : {n : ℕ} {src tgt : List ℕ} {method order : ℕ} {c : Chooser} {list lab : List ℕ} {num wor num₁ wor₁ num₂ wor₂ : List ℕ} {s e : Machine} {ys ys₁ : List Part}
-    → Begun n src tgt method order c list (length ys) (length lab) num wor num₁ wor₁ s → Driven (graph n src tgt) ys num₁ wor₁ s ys₁ num₂ wor₂ e → FinishAsk n (length src) lab num₂ wor₂ e
+pub driven-finish : {n : ℕ} {src tgt kinds : List ℕ} {mask method order : ℕ} {c : Chooser} {list lab : List ℕ} {num wor num₁ wor₁ num₂ wor₂ : List ℕ} {s e : Machine} {ys ys₁ : List Part}
+    → Begun n src tgt kinds mask method order c list (length ys) (length lab) num wor num₁ wor₁ s → Driven (table n src tgt kinds mask) ys num₁ wor₁ s ys₁ num₂ wor₂ e → FinishAsk n (length src) lab num₂ wor₂ e
 driven-finish b d = ended-ask (accepting b) (ran-lengths (d .run))
 
 -- nothing waits: every colour is a label
@@ -198,24 +198,24 @@ module _ {g : Graph} {c : Chooser} {ys : List Part} {num wor : List ℕ} {e : Ma
     ended-rings = many-mono (λ l. leb 2 (sharing lab l)) (ring (g .n) (col (base g) num)) (g .n) shared
 
 -- refused
-refused-met : {n : ℕ} {src tgt : List ℕ} {method order : ℕ} {c : Chooser} {list lab : List ℕ} {num wor : List ℕ} {ys : List Part} {lab₃ num₃ wor₃ : List ℕ} {a : Answer} (k : ℕ)
-    → k ≡ refusalOf n src tgt method order (c .kind) (length lab) (length ys) (length num) (length wor) → (k ≡ 0 → ⊥)
-    → Ended n (length src) lab num wor (idleWith k c) lab₃ num₃ wor₃ a → Promise (call n src tgt method order c list ys lab num wor) (after c ys lab₃ num₃ wor₃) a
+refused-met : {n : ℕ} {src tgt kinds : List ℕ} {mask method order : ℕ} {c : Chooser} {list lab : List ℕ} {num wor : List ℕ} {ys : List Part} {lab₃ num₃ wor₃ : List ℕ} {a : Answer} (k : ℕ)
+    → k ≡ refusalOf n src tgt kinds method order (c .kind) (length lab) (length ys) (length num) (length wor) → (k ≡ 0 → ⊥)
+    → Ended n (length src) lab num wor (idleWith k c) lab₃ num₃ wor₃ a → Promise (call n src tgt kinds mask method order c list ys lab num wor) (after c ys lab₃ num₃ wor₃) a
 refused-met k e h (refusing x) = record { refusal = e; gives = record { refused = h; chooser = refl; waiting = refl; label = refl; numbers = refl; words = refl } }
 refused-met k e h (doing x cp z) = absurd (h x)
 
 -- no vertex
-nothing-met : {n : ℕ} {src tgt : List ℕ} {method order : ℕ} {c : Chooser} {list lab : List ℕ} {num wor : List ℕ} {ys : List Part} {lab₃ num₃ wor₃ : List ℕ} {a : Answer}
-    → refusalOf n src tgt method order (c .kind) (length lab) (length ys) (length num) (length wor) ≡ 0 → n ≡ 0
-    → Ended n (length src) lab num wor (idleWith 0 c) lab₃ num₃ wor₃ a → Promise (call n src tgt method order c list ys lab num wor) (after c ys lab₃ num₃ wor₃) a
+nothing-met : {n : ℕ} {src tgt kinds : List ℕ} {mask method order : ℕ} {c : Chooser} {list lab : List ℕ} {num wor : List ℕ} {ys : List Part} {lab₃ num₃ wor₃ : List ℕ} {a : Answer}
+    → refusalOf n src tgt kinds method order (c .kind) (length lab) (length ys) (length num) (length wor) ≡ 0 → n ≡ 0
+    → Ended n (length src) lab num wor (idleWith 0 c) lab₃ num₃ wor₃ a → Promise (call n src tgt kinds mask method order c list ys lab num wor) (after c ys lab₃ num₃ wor₃) a
 unfolding draws summary
 nothing-met q e (refusing x) = absurd (x refl)
-nothing-met {n} {method = method} {order} {c} {list} {lab₃ = lab₃} q e (doing x cp z) =
+nothing-met {n} {mask = mask} {method} {order} {c} {list} {lab₃ = lab₃} q e (doing x cp z) =
     let k = accepted q in
     record {
       refusal = sym q;
       gives = record {
-        label = right-unique (k .valid) lab₃ (cp .long ∙ k .label) (λ v l. absurd (omega arith));
+        label = right-unique (k .valid mask) lab₃ (cp .long ∙ k .label) (λ v l. absurd (omega arith));
         choices = 0;
         course = apart-none method order (c .kind) (c .state) list lab₃ e;
         drawn = drawn-first (eqb (c .kind) 1);
@@ -231,52 +231,52 @@ nothing-met {n} {method = method} {order} {c} {list} {lab₃ = lab₃} q e (doin
     }
 
 -- the machine ran
-ran-met : {n : ℕ} {src tgt : List ℕ} {method order : ℕ} {c : Chooser} {list lab : List ℕ} {num wor num₁ wor₁ num₂ wor₂ : List ℕ} {e : Machine} {ys ys₂ : List Part} {lab₃ num₃ wor₃ : List ℕ} {a : Answer}
-    → refusalOf n src tgt method order (c .kind) (length lab) (length ys) (length num) (length wor) ≡ 0 → Started (graph n src tgt) (c .kind) list num wor num₁ wor₁
-    → Running (graph n src tgt) c ys₂ num₂ wor₂ e → Went n (length src) ys num₁ wor₁ (aimed n (firstOne n method order c)) ys₂ num₂ wor₂ e
-    → Traced (graph n src tgt) method c list ys₂ num₂ e → e .go ≡ 0
-    → Ended n (length src) lab num₂ wor₂ e lab₃ num₃ wor₃ a → Promise (call n src tgt method order c list ys lab num wor) (after (e .chooser) ys₂ lab₃ num₃ wor₃) a
+ran-met : {n : ℕ} {src tgt kinds : List ℕ} {mask method order : ℕ} {c : Chooser} {list lab : List ℕ} {num wor num₁ wor₁ num₂ wor₂ : List ℕ} {e : Machine} {ys ys₂ : List Part} {lab₃ num₃ wor₃ : List ℕ} {a : Answer}
+    → refusalOf n src tgt kinds method order (c .kind) (length lab) (length ys) (length num) (length wor) ≡ 0 → Started (table n src tgt kinds mask) (c .kind) list num wor num₁ wor₁
+    → Running (table n src tgt kinds mask) c ys₂ num₂ wor₂ e → Went n (length src) ys num₁ wor₁ (aimed n (firstOne n method order c)) ys₂ num₂ wor₂ e
+    → Traced (table n src tgt kinds mask) method c list ys₂ num₂ e → e .go ≡ 0
+    → Ended n (length src) lab num₂ wor₂ e lab₃ num₃ wor₃ a → Promise (call n src tgt kinds mask method order c list ys lab num wor) (after (e .chooser) ys₂ lab₃ num₃ wor₃) a
 ran-met q st r w t d (refusing x) = absurd (x (w .refusal))
-ran-met {n} {src} {tgt} {c = c} {num₂ = num₂} {lab₃ = lab₃} q st r w t d (doing x cp z) =
+ran-met {n} {src} {tgt} {kinds} {mask} {c = c} {num₂ = num₂} {lab₃ = lab₃} q st r w t d (doing x cp z) =
     let k = accepted q in
-    let copied : (v : ℕ) → v < n → getD lab₃ v 0 ≡ col (base (graph n src tgt)) num₂ v = λ v l. cp .each v (omega (arith, k .label)) in
+    let copied : (v : ℕ) → v < n → getD lab₃ v 0 ≡ col (base (table n src tgt kinds mask)) num₂ v = λ v l. cp .each v (omega (arith, k .label)) in
     record {
       refusal = sym q;
       gives = record {
-        label = right-unique (k .valid) lab₃ (cp .long ∙ k .label) (λ v l. rw (copied v l) (ended-label r d (k .valid) v l));
+        label = right-unique (k .valid mask) lab₃ (cp .long ∙ k .label) (λ v l. rw (copied v l) (ended-label r d (k .valid mask) v l));
         choices = t .choices;
-        course = ended-course r d (k .valid) lab₃ copied (w .order) t;
+        course = ended-course r d (k .valid mask) lab₃ copied (w .order) t;
         drawn = t .drawn;
         never = r .still;
-        least = λ z. omega (arith, r .drawn z, ended-rings r d (k .valid) lab₃ (cp .long ∙ k .label) copied);
-        most = ended-most r d (k .valid);
+        least = λ z. omega (arith, r .drawn z, ended-rings r d (k .valid mask) lab₃ (cp .long ∙ k .label) copied);
+        most = ended-most r d (k .valid mask);
         state = r .state;
         kind = r .kind;
-        waiting = record { long = w .long; front = ended-none r d (k .valid); rest = w .list };
+        waiting = record { long = w .long; front = ended-none r d (k .valid mask); rest = w .list };
         numbers = zeroed-after (w .numbers-long ∙ st .long) (λ j h. w .numbers j h ∙ st .beyond j h) (z .numbers-zero);
         words = zeroed-after (w .words-long ∙ st .words-long) (λ j h. w .words j h ∙ st .words j h) (z .words-zero);
       };
     }
 
-met : {n : ℕ} {src tgt : List ℕ} {method order : ℕ} {c : Chooser} {list lab : List ℕ} {num wor num₁ wor₁ num₂ wor₂ : List ℕ} {s e : Machine} {ys ys₂ : List Part} {lab₃ num₃ wor₃ : List ℕ} {a : Answer}
-    → Begun n src tgt method order c list (length ys) (length lab) num wor num₁ wor₁ s → Ran (graph n src tgt) ys num₁ wor₁ s ys₂ num₂ wor₂ e → e .go ≡ 0
-    → Ended n (length src) lab num₂ wor₂ e lab₃ num₃ wor₃ a → Promise (call n src tgt method order c list ys lab num wor) (after (e .chooser) ys₂ lab₃ num₃ wor₃) a
-met {n} {src} {tgt} {method} {order} {c} {lab = lab} {num = num} {wor = wor} {ys = ys} (refused h) (idle z) d f = refused-met (refusalOf n src tgt method order (c .kind) (length lab) (length ys) (length num) (length wor)) refl h f
+met : {n : ℕ} {src tgt kinds : List ℕ} {mask method order : ℕ} {c : Chooser} {list lab : List ℕ} {num wor num₁ wor₁ num₂ wor₂ : List ℕ} {s e : Machine} {ys ys₂ : List Part} {lab₃ num₃ wor₃ : List ℕ} {a : Answer}
+    → Begun n src tgt kinds mask method order c list (length ys) (length lab) num wor num₁ wor₁ s → Ran (table n src tgt kinds mask) ys num₁ wor₁ s ys₂ num₂ wor₂ e → e .go ≡ 0
+    → Ended n (length src) lab num₂ wor₂ e lab₃ num₃ wor₃ a → Promise (call n src tgt kinds mask method order c list ys lab num wor) (after (e .chooser) ys₂ lab₃ num₃ wor₃) a
+met {n} {src} {tgt} {kinds} {mask} {method} {order} {c} {lab = lab} {num = num} {wor = wor} {ys = ys} (refused h) (idle z) d f = refused-met (refusalOf n src tgt kinds method order (c .kind) (length lab) (length ys) (length num) (length wor)) refl h f
 met (refused h) (ran p r w t) d f = absurd (not-suc-le-zero p)
 met (nothing q e) (idle z) d f = nothing-met q e f
 met (nothing q e) (ran p r w t) d f = absurd (not-suc-le-zero p)
 met {n} {method = method} {order = order} {c = c} (begun q p st) (idle z) d f = absurd (omega (arith, goes-clear n (firstOne n method order c) p))
-met {method = method} {list = list} {ys = ys} (begun q p st) (ran x r w t) d f = let a = accepted q in ran-met q st r w (t method list (begun-traced a p st refl ys (a .waiting))) d f
+met {mask = mask} {method} {list = list} {ys = ys} (begun q p st) (ran x r w t) d f = let a = accepted q in ran-met q st r w (t method list (begun-traced mask a p st refl ys (a .waiting))) d f
 
 -- the calls of the decomposer, one after the other: the chooser is copied, and put back as the machine leaves it
-pub promised : {n : ℕ} {src tgt : List ℕ} {method order : ℕ} {c x c₂ : Chooser} {list lab : List ℕ} {num wor num₁ wor₁ num₂ wor₂ : List ℕ} {s e : Machine} {ys ys₂ : List Part} {lab₃ num₃ wor₃ : List ℕ} {a : Answer}
-    → x ≡ c → Begun n src tgt method order x list (length ys) (length lab) num wor num₁ wor₁ s → Driven (graph n src tgt) ys num₁ wor₁ s ys₂ num₂ wor₂ e → c₂ ≡ e .chooser
-    → Ended n (length src) lab num₂ wor₂ e lab₃ num₃ wor₃ a → Promise (call n src tgt method order c list ys lab num wor) (after c₂ ys₂ lab₃ num₃ wor₃) a
-promised {n} {src} {tgt} {method} {order} {list = list} {lab} {num} {wor} {num₁} {wor₁} {s = s} {ys = ys} {ys₂} {lab₃} {num₃} {wor₃} {a} q b d p f =
-    rw p (met (subst (λ (y : Chooser). Begun n src tgt method order y list (length ys) (length lab) num wor num₁ wor₁ s) q b) (d .run) (d .done) f)
+pub promised : {n : ℕ} {src tgt kinds : List ℕ} {mask method order : ℕ} {c x c₂ : Chooser} {list lab : List ℕ} {num wor num₁ wor₁ num₂ wor₂ : List ℕ} {s e : Machine} {ys ys₂ : List Part} {lab₃ num₃ wor₃ : List ℕ} {a : Answer}
+    → x ≡ c → Begun n src tgt kinds mask method order x list (length ys) (length lab) num wor num₁ wor₁ s → Driven (table n src tgt kinds mask) ys num₁ wor₁ s ys₂ num₂ wor₂ e → c₂ ≡ e .chooser
+    → Ended n (length src) lab num₂ wor₂ e lab₃ num₃ wor₃ a → Promise (call n src tgt kinds mask method order c list ys lab num wor) (after c₂ ys₂ lab₃ num₃ wor₃) a
+promised {n} {src} {tgt} {kinds} {mask} {method} {order} {list = list} {lab} {num} {wor} {num₁} {wor₁} {s = s} {ys = ys} {ys₂} {lab₃} {num₃} {wor₃} {a} q b d p f =
+    rw p (met (subst (λ (y : Chooser). Begun n src tgt kinds mask method order y list (length ys) (length lab) num wor num₁ wor₁ s) q b) (d .run) (d .done) f)
 
--- kind 0 reads no list of vertices
-unlisted : {n : ℕ} {src tgt list lab num wor : List ℕ} {ys : List Part} {o : After} (a : Answer) → Promise (call n src tgt 0 0 still list ys lab num wor) o a → Promise (call n src tgt 0 0 still [] ys lab num wor) o a
+-- pivot kind 0 reads no list of vertices
+unlisted : {n : ℕ} {src tgt kinds : List ℕ} {mask : ℕ} {list lab num wor : List ℕ} {ys : List Part} {o : After} (a : Answer) → Promise (call n src tgt kinds mask 0 0 still list ys lab num wor) o a → Promise (call n src tgt kinds mask 0 0 still [] ys lab num wor) o a
 unlisted (Done d) p =
     let f = p .gives in
     record {
@@ -287,6 +287,6 @@ unlisted (Refused k) p =
     let f = p .gives in
     record { refusal = p .refusal; gives = record { refused = f .refused; chooser = f .chooser; waiting = f .waiting; label = f .label; numbers = f .numbers; words = f .words } }
 
-pub plainly : {n : ℕ} {src tgt list lab num wor : List ℕ} {c₂ : Chooser} {ys ys₂ : List Part} {lab₃ num₃ wor₃ : List ℕ} {a : Answer}
-    → ys ≡ replicate 512 none → Promise (call n src tgt 0 0 still list ys lab num wor) (after c₂ ys₂ lab₃ num₃ wor₃) a → Plainly n src tgt lab num wor lab₃ num₃ wor₃ a
+pub plainly : {n : ℕ} {src tgt kinds : List ℕ} {mask : ℕ} {list lab num wor : List ℕ} {c₂ : Chooser} {ys ys₂ : List Part} {lab₃ num₃ wor₃ : List ℕ} {a : Answer}
+    → ys ≡ replicate 512 none → Promise (call n src tgt kinds mask 0 0 still list ys lab num wor) (after c₂ ys₂ lab₃ num₃ wor₃) a → Plainly n src tgt kinds mask lab num wor lab₃ num₃ wor₃ a
 plainly {c₂ = c₂} {ys₂ = ys₂} {a = a} q p = record { chooser = c₂; waiting = ys₂; promise = unlisted a (rw q at p) }

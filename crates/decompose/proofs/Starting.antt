@@ -33,7 +33,7 @@ blank-zeroed {n} {ws} {ws'} l z =
       none = λ v h. zero-bit ws' v (z .front (v / 64) (omega arith));
     }
 
-module _ (g : Graph) (L : List ℕ) {w w₁ w₂ w₃ w₄ w₅ w₆ ws ws' : List ℕ} (ask : StartAsk g w ws)
+module _ (g : Graph) (L : List ℕ) {kinds w w₁ w₂ w₃ w₄ w₅ w₆ ws ws' : List ℕ} (ask : StartAsk g kinds w ws)
     (both : Both g w w₁) (placed : Ordered (g .n) L (base g) w₁ w₂)
     (p : Put (base g) (g .n) (λ j. g .n) w₂ w₃) (q : Put (base g + 2 * g .n) (g .n) (λ j. j + 1) w₃ w₄) (r : Put (base g + 3 * g .n) (3 * g .n + 2) (λ j. g .n) w₄ w₅) (s : Put (base g + 8 * g .n + 2) 1 (λ j. 0) w₅ w₆)
     (z : Zeroed (wordsNeeded (g .n)) ws ws') where

@@ -3,7 +3,7 @@ use Prim.Native.Nat.{ℕ, _+_, _≤_, _<_}
 use mathlib.Core.Path.{_≡_}
 use mathlib.Core.List.{List}
 use lib.ListN.{length, getD}
-use Rattle.graph.specs.Graph.{Graph, Valid, edges, graph}
+use Rattle.graph.specs.Graph.{Graph, Kinds, Valid, edges, table}
 use Rattle.graph.specs.Limits.{mostVertices, mostEdges, numbersNeeded, wordsNeeded, Enough}
 use Rattle.graph.specs.Pivot.{listOf}
 use Rattle.memory.specs.Decomposer.{head, ord}
@@ -17,8 +17,9 @@ use Rattle.machine.specs.Machine.{base, Whole}
 use Rattle.machine.specs.Waits.{Waits}
 use Rattle.decompose.specs.Promise.{refusalOf}
 
-pub record StartAsk (g : Graph) (num wor : List ℕ) : Type 0 where
+pub record StartAsk (g : Graph) (kinds num wor : List ℕ) : Type 0 where
   pub valid : Valid g
+  pub kinded : Kinds (edges g) kinds
   pub small : g .n ≤ mostVertices
   pub few : edges g ≤ mostEdges
   pub some : 0 < g .n
@@ -75,9 +76,9 @@ firstOne n method order c =
     }
 
 -- refused, or nothing to do, or begun
-pub data Begun (n : ℕ) (src tgt : List ℕ) (method order : ℕ) (c : Chooser) (list : List ℕ) (waiting label : ℕ) (num wor : List ℕ) : List ℕ → List ℕ → Machine → Type 0 where
-  refused : (refusalOf n src tgt method order (c .kind) label waiting (length num) (length wor) ≡ 0 → ⊥)
-      → Begun n src tgt method order c list waiting label num wor num wor (idleWith (refusalOf n src tgt method order (c .kind) label waiting (length num) (length wor)) c)
-  nothing : refusalOf n src tgt method order (c .kind) label waiting (length num) (length wor) ≡ 0 → n ≡ 0 → Begun n src tgt method order c list waiting label num wor num wor (idleWith 0 c)
-  begun : {num' wor' : List ℕ} → refusalOf n src tgt method order (c .kind) label waiting (length num) (length wor) ≡ 0 → 0 < n
-      → Started (graph n src tgt) (c .kind) list num wor num' wor' → Begun n src tgt method order c list waiting label num wor num' wor' (aimed n (firstOne n method order c))
+pub data Begun (n : ℕ) (src tgt kinds : List ℕ) (mask method order : ℕ) (c : Chooser) (list : List ℕ) (waiting label : ℕ) (num wor : List ℕ) : List ℕ → List ℕ → Machine → Type 0 where
+  refused : (refusalOf n src tgt kinds method order (c .kind) label waiting (length num) (length wor) ≡ 0 → ⊥)
+      → Begun n src tgt kinds mask method order c list waiting label num wor num wor (idleWith (refusalOf n src tgt kinds method order (c .kind) label waiting (length num) (length wor)) c)
+  nothing : refusalOf n src tgt kinds method order (c .kind) label waiting (length num) (length wor) ≡ 0 → n ≡ 0 → Begun n src tgt kinds mask method order c list waiting label num wor num wor (idleWith 0 c)
+  begun : {num' wor' : List ℕ} → refusalOf n src tgt kinds method order (c .kind) label waiting (length num) (length wor) ≡ 0 → 0 < n
+      → Started (table n src tgt kinds mask) (c .kind) list num wor num' wor' → Begun n src tgt kinds mask method order c list waiting label num wor num' wor' (aimed n (firstOne n method order c))

@@ -1,7 +1,7 @@
 // The beginning of a decomposition: the tests, the indexes, the order, and the whole collection as the first part.
 ghost use mathlib.Core.Path.{_≡_};
 ghost use Prim.Native.Nat.{_+_, _≤_};
-ghost use Rattle.graph.specs.Graph.{graph};
+ghost use Rattle.graph.specs.Graph.{table};
 ghost use Rattle.graph.specs.Limits.{mostVertices};
 ghost use Rattle.graph.specs.Pivot.{listOf};
 ghost use Rattle.pivot.specs.Order.{Ordered};
@@ -19,11 +19,12 @@ use pivot::chooser::Chooser;
 use pivot::order;
 use waiting::Part;
 
-// The first of 1 to 8 that applies, else 0.
+// The first of 1, 2, 21, 3, 4, 22, 5 to 8 that applies, else 0, whatever the mask.
 fn refusal(
     n: usize,
     sources: &[u32],
     targets: &[u32],
+    kinds: &[u8],
     method: u32,
     order: u32,
     kind: u32,
@@ -32,9 +33,9 @@ fn refusal(
     numbers: usize,
     words: usize,
 ) -> u32
-    ensures { λ k. ⌜ k ≡ refusalOf n (now (sources .entry)) (now (targets .entry)) method order kind label waiting numbers words ⌝ }
+    ensures { λ k. ⌜ k ≡ refusalOf n (now (sources .entry)) (now (targets .entry)) (now (kinds .entry)) method order kind label waiting numbers words ⌝ }
 {
-    let fault = table::check(n, sources, targets);
+    let fault = table::check(n, sources, targets, kinds);
     if fault != 0 {
         return fault;
     }
@@ -59,7 +60,7 @@ fn refusal(
     0
 }
 
-// The order of the caller's list; kinds 0 and 1 know no list, and their order is the rising one.
+// The order of the caller's list; pivot kinds 0 and 1 know no list, and their order is the rising one.
 fn arrange(n: usize, kind: u32, list: &[u32], w: &mut [u32], b: usize)
     requires { ⌜ Room n b (now w) ⌝ }
     ensures { λ _. ⌜ Ordered n (listOf kind (now (list .entry))) b (now (w .entry)) (now (w .exit)) ⌝ }
@@ -75,16 +76,18 @@ fn start(
     n: usize,
     sources: &[u32],
     targets: &[u32],
+    kinds: &[u8],
+    mask: u8,
     kind: u32,
     list: &[u32],
     numbers: &mut [u32],
     words: &mut [u64],
 )
-    requires { ⌜ StartAsk (graph n (now sources) (now targets)) (now numbers) (now words) ⌝ }
-    ensures { λ _. ⌜ Started (graph n (now (sources .entry)) (now (targets .entry))) kind (now (list .entry)) (now (numbers .entry)) (now (words .entry)) (now (numbers .exit)) (now (words .exit)) ⌝ }
+    requires { ⌜ StartAsk (table n (now sources) (now targets) (now kinds) mask) (now kinds) (now numbers) (now words) ⌝ }
+    ensures { λ _. ⌜ Started (table n (now (sources .entry)) (now (targets .entry)) (now (kinds .entry)) mask) kind (now (list .entry)) (now (numbers .entry)) (now (words .entry)) (now (numbers .exit)) (now (words .exit)) ⌝ }
 {
     let b = 2 * (n + 1 + sources.len());
-    build::both(n, sources, targets, numbers);
+    build::both(n, sources, targets, kinds, mask, numbers);
     arrange(n, kind, list, numbers, b);
     memory::fill(numbers, b, n, n as u32);
     memory::count(numbers, b + CHAINS * n, n, 1);
@@ -151,6 +154,8 @@ pub fn begin(
     n: usize,
     sources: &[u32],
     targets: &[u32],
+    kinds: &[u8],
+    mask: u8,
     method: u32,
     order: u32,
     chooser: Chooser,
@@ -160,15 +165,17 @@ pub fn begin(
     numbers: &mut [u32],
     words: &mut [u64],
 ) -> Machine
-    ensures { λ s. ⌜ Begun n (now (sources .entry)) (now (targets .entry)) method order chooser (now (list .entry)) waiting label (now (numbers .entry)) (now (words .entry)) (now (numbers .exit)) (now (words .exit)) s ⌝ }
+    ensures { λ s. ⌜ Begun n (now (sources .entry)) (now (targets .entry)) (now (kinds .entry)) mask method order chooser (now (list .entry)) waiting label (now (numbers .entry)) (now (words .entry)) (now (numbers .exit)) (now (words .exit)) s ⌝ }
 {
+    let kind = chooser.kind;
     let k = refusal(
         n,
         sources,
         targets,
+        kinds,
         method,
         order,
-        chooser.kind,
+        kind,
         label,
         waiting,
         numbers.len(),
@@ -180,6 +187,6 @@ pub fn begin(
     if n == 0 {
         return idle(0, chooser);
     }
-    start(n, sources, targets, chooser.kind, list, numbers, words);
+    start(n, sources, targets, kinds, mask, kind, list, numbers, words);
     machine::aimed(n, first(n, method, order, chooser))
 }

@@ -14,6 +14,8 @@ pub fn decompose(
     n: usize,
     sources: &[u32],
     targets: &[u32],
+    kinds: &[u8],
+    mask: u8,
     method: u32,
     order: u32,
     chooser: &mut Chooser,
@@ -23,13 +25,15 @@ pub fn decompose(
     numbers: &mut [u32],
     words: &mut [u64],
 ) -> Answer
-    ensures { λ a. ⌜ Promise (call n (now (sources .entry)) (now (targets .entry)) method order (now (chooser .entry)) (now (list .entry)) (now (waiting .entry)) (now (label .entry)) (now (numbers .entry)) (now (words .entry))) (after (now (chooser .exit)) (now (waiting .exit)) (now (label .exit)) (now (numbers .exit)) (now (words .exit))) a ⌝ }
+    ensures { λ a. ⌜ Promise (call n (now (sources .entry)) (now (targets .entry)) (now (kinds .entry)) mask method order (now (chooser .entry)) (now (list .entry)) (now (waiting .entry)) (now (label .entry)) (now (numbers .entry)) (now (words .entry))) (after (now (chooser .exit)) (now (waiting .exit)) (now (label .exit)) (now (numbers .exit)) (now (words .exit))) a ⌝ }
 {
     let c = pivot::chooser::copy(chooser);
     let s = begin::begin(
         n,
         sources,
         targets,
+        kinds,
+        mask,
         method,
         order,
         c,

@@ -1,4 +1,4 @@
-// The decomposer with plain parameters: method 0, order 0, kind 0, and a list of its own for at most 512 vertices.
+// The decomposer with plain parameters: method 0, order 0, pivot kind 0, and a list of its own for at most 512 vertices.
 ghost use mathlib.Core.Path.{_≡_};
 ghost use lib.ListN.{replicate};
 ghost use Rattle.waiting.specs.Records.{none};
@@ -17,16 +17,18 @@ fn fresh() -> [Part; 512]
     }; 512]
 }
 
-// The labels of at most 512 vertices. Kind 0 reads no list of vertices, so the sources stand in for one.
+// The labels of at most 512 vertices. Pivot kind 0 reads no list of vertices, so the sources stand in for one.
 pub fn plain(
     n: usize,
     sources: &[u32],
     targets: &[u32],
+    kinds: &[u8],
+    mask: u8,
     label: &mut [u32],
     numbers: &mut [u32],
     words: &mut [u64],
 ) -> Answer
-    ensures { λ a. ⌜ Plainly n (now (sources .entry)) (now (targets .entry)) (now (label .entry)) (now (numbers .entry)) (now (words .entry)) (now (label .exit)) (now (numbers .exit)) (now (words .exit)) a ⌝ }
+    ensures { λ a. ⌜ Plainly n (now (sources .entry)) (now (targets .entry)) (now (kinds .entry)) mask (now (label .entry)) (now (numbers .entry)) (now (words .entry)) (now (label .exit)) (now (numbers .exit)) (now (words .exit)) a ⌝ }
 {
     let mut list = fresh();
     let mut chooser = Chooser { kind: 0, state: 0 };
@@ -34,6 +36,8 @@ pub fn plain(
         n,
         sources,
         targets,
+        kinds,
+        mask,
         0,
         0,
         &mut chooser,

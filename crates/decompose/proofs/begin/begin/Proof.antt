@@ -34,7 +34,7 @@ start-requires c κs =
     let at-if1 = at-if2 .before in
     let at-refusal = at-if1 .before in
     let a = accepted (sym (at-refusal .refusal .ensures) ∙ at-if1 .if1 .left) in
-    record { valid = a .valid; small = a .small; few = a .few; some = omega (arith, at-if2 .if2 .left); memory = a .memory }
+    record { valid = a .valid _; kinded = a .kinded; small = a .small; few = a .few; some = omega (arith, at-if2 .if2 .left); memory = a .memory }
 
 first-requires : tie.Need-first-requires
 first-requires c κs = search needs

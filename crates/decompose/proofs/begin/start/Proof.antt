@@ -1,6 +1,6 @@
 use mathlib.Core.Path.{refl}
 use native.Mathlib.Omega.{arith}
-use Rattle.graph.specs.Graph.{graph}
+use Rattle.graph.specs.Graph.{table}
 use Rattle.index.proofs.Asks.{valid-both}
 use Rattle.graph.specs.Pivot.{listOf}
 use Rattle.decompose.proofs.Starting.{started}
@@ -25,7 +25,7 @@ abbrev both-of : tie.After-arrange → tie.After-both
 both-of c = c .before .before .before .before
 
 abbrev start-of : tie.After-both → tie.Start
-start-of c = let known = c .before .before .before in known .before .before .before .before
+start-of c = let known = c .before .before .before .before in known .before .before .before .before
 
 -- from the last fill to the start
 abbrev first-of : tie.After-fill3 → tie.Start
@@ -41,7 +41,7 @@ mul-b : tie.Need-mul-b
 mul-b c = search needs
 
 both-requires : tie.Need-both-requires
-both-requires c κs = let known = c .before .before in let a = known .before .before .before .before .pre in valid-both (a .valid) (a .small) (a .few) (omega (arith, a .memory .numbers))
+both-requires c κs = let known = c .before .before .before in let a = known .before .before .before .before .pre in valid-both (a .valid) (a .kinded) (a .small) (a .few) (omega (arith, a .memory .numbers))
 
 arrange-requires : tie.Need-arrange-requires
 arrange-requires c κs = search needs
@@ -120,7 +120,7 @@ returns c =
     let at-arrange = arrange-of at-fill in
     let at-both = both-of at-arrange in
     let start = start-of at-both in
-    started (graph (start .args .n) (start .args .sources .now) (start .args .targets .now)) (listOf (start .args .kind) (start .args .list .now)) (start .pre) (at-both .both .ensures) (at-arrange .arrange .ensures) (at-fill .fill .ensures) (at-count .count .ensures) (at-fill2 .fill2 .ensures) (at-fill3 .fill3 .ensures) (rw (at-words-needed .words-needed .ensures) at (at-zero-words .zero-words .ensures)) (start .args .kind) (start .args .list .now) refl
+    started (table (start .args .n) (start .args .sources .now) (start .args .targets .now) (start .args .kinds .now) (start .args .mask)) (listOf (start .args .kind) (start .args .list .now)) (start .pre) (at-both .both .ensures) (at-arrange .arrange .ensures) (at-fill .fill .ensures) (at-count .count .ensures) (at-fill2 .fill2 .ensures) (at-fill3 .fill3 .ensures) (rw (at-words-needed .words-needed .ensures) at (at-zero-words .zero-words .ensures)) (start .args .kind) (start .args .list .now) refl
 
 pub start-spec : {M : Type 1} → statement M
 start-spec =
