@@ -10,7 +10,7 @@ use lib.Seq.{take-at, length-take-le}
 use borrow.Author.Tests.{le-ltb}
 use Rattle.graph.specs.Graph.{graph}
 use Rattle.graph.specs.Limits.{mostVertices}
-use Rattle.graph.specs.Refusal.{given, _or_, tableRefusal}
+use Rattle.graph.specs.Refusal.{given, _or_, plainRefusal}
 use Rattle.graph.specs.Search.{labels}
 use Rattle.graph.proofs.Certificate.{labels-size}
 use Rattle.text.specs.declared.Answer.{Answer as Read}
@@ -79,7 +79,7 @@ module _ (text room₁ room₂ : List ℕ) where
       pub read-ask : LabelAsk n (take m s) (take m t) (labels (graph n (take m s) (take m t)))
       read-ask =
           record {
-            passed = same tableRefusal ∙ sound-passed entryLimits table (omega arith) (omega arith) sound;
+            passed = same plainRefusal ∙ sound-passed entryLimits table (omega arith) (omega arith) sound;
             vertices = omega (arith, told .vertices, sound .vertices);
             edges = omega (arith, sources-taken, told .count, sound .few);
             long = labels-size (graph n (take m s) (take m t));

@@ -9,7 +9,7 @@ use lib.Dec.{eqb}
 use lib.ListN.{length, getD, length-map}
 use borrow.Author.Tests.{eqb-true, leb-true, ltb-false, le-ltb, eq-eqb}
 use Rattle.graph.specs.Limits.{mostVertices, mostEdges}
-use Rattle.graph.specs.Refusal.{given, _or_, tableRefusal}
+use Rattle.graph.specs.Refusal.{given, _or_, plainRefusal}
 use Rattle.graph.proofs.Refusals.{or-none, given-none, outside-no}
 use Rattle.lines.specs.Pieces.{lines}
 use Rattle.lines.specs.Numbers.{Content, faulty, numbers, content}
@@ -182,9 +182,9 @@ pub market-sound : (l : Limits) (text : List ℕ) (t : Table) → market l text 
 unfolding market Fine
 market-sound l text t e = rw e at (lines-fine l (lines text))
 
--- a table that was read passes the table check
-pub sound-passed : (l : Limits) (t : Table) → l .mostVertices ≤ mostVertices → l .mostEdges ≤ mostEdges → Sound l t → tableRefusal (t .n) (map (λ a. a .source) (t .edges)) (map (λ a. a .target) (t .edges)) ≡ 0
-unfolding tableRefusal given _or_
+-- a table that was read passes the check of a table without kinds
+pub sound-passed : (l : Limits) (t : Table) → l .mostVertices ≤ mostVertices → l .mostEdges ≤ mostEdges → Sound l t → plainRefusal (t .n) (map (λ a. a .source) (t .edges)) (map (λ a. a .target) (t .edges)) ≡ 0
+unfolding plainRefusal given _or_
 sound-passed l t v e s =
     let from = length-map (t .edges) (λ a. a .source) in
     let to = length-map (t .edges) (λ a. a .target) in

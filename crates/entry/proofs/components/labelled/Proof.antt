@@ -1,5 +1,5 @@
 use borrow.Author.Needs.{needs}
-use Rattle.entry.proofs.Plain.{plain-labels}
+use Rattle.entry.proofs.Plain.{kinds-taken, plain-labels}
 use Rattle.entry.proofs.components.labelled.Statement.{statement}
 use Rattle.entry.proofs.components.labelled.Tie as tie
 
@@ -12,6 +12,9 @@ labelled-spec =
     (tie.spec
     (λ c κs. search needs)
     (λ c κs. search needs)
+    (λ c κs. search needs)
+    (λ c. search needs)
+    (λ c. search kinds-taken)
     (λ c. search needs)
     (λ c. search needs)
     (λ c κs. search needs)
