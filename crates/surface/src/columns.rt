@@ -1,5 +1,4 @@
 // On label columns and certificates: the writer, the checker and the summary.
-ghost use mathlib.Core.Path.{_≡_};
 ghost use Rattle.certificate.specs.Promise.{call as writing, lent, Promise as Certified};
 ghost use Rattle.checker.specs.Promise.{call as checking};
 ghost use Rattle.surface.specs.Check.{Checked};
@@ -10,6 +9,8 @@ pub extern "C" fn tinoweala_write_certificate(
     n: usize,
     sources: &[u32],
     targets: &[u32],
+    kinds: &[u8],
+    mask: u8,
     label: &[u32],
     rank: &mut [u32],
     in_edge: &mut [u32],
@@ -19,12 +20,14 @@ pub extern "C" fn tinoweala_write_certificate(
     numbers: &mut [u32],
     words: &mut [u64],
 ) -> u32
-    ensures { λ k. ⌜ Certified (writing n (now (sources .entry)) (now (targets .entry)) (now (label .entry)) (lent (now (rank .entry)) (now («in_edge» .entry)) (now («in_distance» .entry)) (now («out_edge» .entry)) (now («out_distance» .entry)) (now (numbers .entry)) (now (words .entry)))) k (lent (now (rank .exit)) (now («in_edge» .exit)) (now («in_distance» .exit)) (now («out_edge» .exit)) (now («out_distance» .exit)) (now (numbers .exit)) (now (words .exit))) ⌝ }
+    ensures { λ k. ⌜ Certified (writing n (now (sources .entry)) (now (targets .entry)) (now (kinds .entry)) mask (now (label .entry)) (lent (now (rank .entry)) (now («in_edge» .entry)) (now («in_distance» .entry)) (now («out_edge» .entry)) (now («out_distance» .entry)) (now (numbers .entry)) (now (words .entry)))) k (lent (now (rank .exit)) (now («in_edge» .exit)) (now («in_distance» .exit)) (now («out_edge» .exit)) (now («out_distance» .exit)) (now (numbers .exit)) (now (words .exit))) ⌝ }
 {
     certificate::write(
         n,
         sources,
         targets,
+        kinds,
+        mask,
         label,
         rank,
         in_edge,
@@ -41,6 +44,8 @@ pub extern "C" fn tinoweala_check_certificate(
     n: usize,
     sources: &[u32],
     targets: &[u32],
+    kinds: &[u8],
+    mask: u8,
     label: &[u32],
     rank: &[u32],
     in_edge: &[u32],
@@ -50,12 +55,14 @@ pub extern "C" fn tinoweala_check_certificate(
     check: &mut u32,
     place: &mut usize,
 ) -> u32
-    ensures { λ k. ⌜ Checked (checking n (now (sources .entry)) (now (targets .entry)) (now (label .entry)) (now (rank .entry)) (now («in_edge» .entry)) (now («in_distance» .entry)) (now («out_edge» .entry)) (now («out_distance» .entry))) (now (check .entry)) (now (place .entry)) (k, now (check .exit), now (place .exit)) ⌝ }
+    ensures { λ k. ⌜ Checked (checking n (now (sources .entry)) (now (targets .entry)) (now (kinds .entry)) mask (now (label .entry)) (now (rank .entry)) (now («in_edge» .entry)) (now («in_distance» .entry)) (now («out_edge» .entry)) (now («out_distance» .entry))) (now (check .entry)) (now (place .entry)) (k, now (check .exit), now (place .exit)) ⌝ }
 {
     match checker::check(
         n,
         sources,
         targets,
+        kinds,
+        mask,
         label,
         rank,
         in_edge,

@@ -24,6 +24,8 @@ pub extern "C" fn tinoweala_decompose(
     n: usize,
     sources: &[u32],
     targets: &[u32],
+    kinds: &[u8],
+    mask: u8,
     method: u32,
     order: u32,
     chooser: &mut Chooser,
@@ -34,12 +36,14 @@ pub extern "C" fn tinoweala_decompose(
     words: &mut [u64],
     draws: &mut usize,
 ) -> u32
-    ensures { λ k. ⌜ Decomposed (call n (now (sources .entry)) (now (targets .entry)) method order (now (chooser .entry)) (now (list .entry)) (now (waiting .entry)) (now (label .entry)) (now (numbers .entry)) (now (words .entry))) (now (draws .entry)) (after (now (chooser .exit)) (now (waiting .exit)) (now (label .exit)) (now (numbers .exit)) (now (words .exit))) (k, now (draws .exit)) ⌝ }
+    ensures { λ k. ⌜ Decomposed (call n (now (sources .entry)) (now (targets .entry)) (now (kinds .entry)) mask method order (now (chooser .entry)) (now (list .entry)) (now (waiting .entry)) (now (label .entry)) (now (numbers .entry)) (now (words .entry))) (now (draws .entry)) (after (now (chooser .exit)) (now (waiting .exit)) (now (label .exit)) (now (numbers .exit)) (now (words .exit))) (k, now (draws .exit)) ⌝ }
 {
     let answer = decompose::decompose(
         n,
         sources,
         targets,
+        kinds,
+        mask,
         method,
         order,
         chooser,

@@ -1,5 +1,4 @@
 // On texts: the reader of a table and the writer of a label file.
-ghost use mathlib.Core.Path.{_≡_};
 ghost use Rattle.graph.specs.Limits.{mostVertices, mostEdges};
 ghost use Rattle.surface.specs.Read.{Read};
 ghost use Rattle.surface.specs.Labels.{Written};
