@@ -1,6 +1,7 @@
 -- The facts of document 01, each computed from the definitions.
 use mathlib.Core.Path.{refl}
-use Rattle.graph.specs.Numbers.{some-below, least, table, many, most}
+use Rattle.graph.specs.Graph.{inMask}
+use Rattle.graph.specs.Numbers.{some-below, least, each, many, most}
 use Rattle.graph.specs.Search.{round, within, labelOf, labels, looked}
 use Rattle.graph.specs.Sets.{word}
 use Rattle.graph.specs.Checker.{entry, check1, check2, check3, check5, fault, verdict}
@@ -8,15 +9,15 @@ use Rattle.graph.specs.Certificate.{distOf, distances, climbed, rankOf, ranks, 
 use Rattle.graph.specs.Paths.{nearer, walk}
 use Rattle.graph.specs.Summary.{summary, sharing}
 use Rattle.graph.specs.Refusal.{given, _or_, outside, tableRefusal, lacking}
-use Rattle.paths.specs.Promise.{askRefusal, pathRefusal}
+use Rattle.paths.specs.Promise.{askOn, refusalOn}
 use Rattle.lines.specs.Pieces.{before, split}
 use Rattle.lines.specs.Numbers.{digitsOnly, valueFrom, numberOf, filled, words, andThen, numbersOf, content}
 use Rattle.text.specs.Market.{same, isComment, hasNone, passedOver, passOver, sizeRefusal, sized, sizeOf, entries as entryLines, asTable, atSize, fromSize, fromFirst, market}
-use Rattle.facts.specs.Facts.{Facts, Runs}
+use Rattle.facts.specs.Facts.{Facts, Runs, Mentions}
 use Rattle.facts.proofs.Marks.{word-marks}
 
 pub facts : Facts
-unfolding labels labelOf within round table least some-below many word looked certificate ranks rankOf climbed distances distOf entries entry walk nearer pathRefusal askRefusal tableRefusal lacking outside given _or_
+unfolding inMask labels labelOf within round each least some-below many word looked certificate ranks rankOf climbed distances distOf entries entry walk nearer refusalOn askOn tableRefusal lacking outside given _or_
 facts =
     record {
       p1 = refl;
@@ -37,7 +38,7 @@ facts =
     }
 
 pub runs : Runs
-unfolding within round table least some-below many most certificate ranks rankOf climbed distances distOf entries entry check1 check2 check3 check5 fault verdict summary sharing tableRefusal given _or_ outside before split digitsOnly valueFrom numberOf filled words andThen numbersOf content same isComment hasNone passedOver passOver sizeRefusal sized sizeOf entryLines asTable atSize fromSize fromFirst market
+unfolding inMask within round each least some-below many most certificate ranks rankOf climbed distances distOf entries entry check1 check2 check3 check5 fault verdict summary sharing tableRefusal given _or_ outside before split digitsOnly valueFrom numberOf filled words andThen numbersOf content same isComment hasNone passedOver passOver sizeRefusal sized sizeOf entryLines asTable atSize fromSize fromFirst market
 runs =
     record {
       summary-of-T = refl;
@@ -48,4 +49,19 @@ runs =
       one-more = refl;
       program-passes = refl;
       program-refuses = refl;
+    }
+
+pub mentions : Mentions
+unfolding inMask labels labelOf within round each least some-below many word looked certificate ranks rankOf climbed distances distOf entries entry check1 check2 check3 check5 fault verdict refusalOn askOn tableRefusal lacking outside given _or_
+mentions =
+    record {
+      bound = refl;
+      broken = refl;
+      ranks = refl;
+      forward = (refl, refl);
+      backward = (refl, refl);
+      no-way-back = refl;
+      columns-fail = refl;
+      six-kinds = refl;
+      kind-eight = refl;
     }

@@ -1,4 +1,4 @@
--- The collection T of document 01 and the facts P1 to P11, as one table about the definitions.
+-- The collection T of document 01 and the facts P1 to P11, as one table about the definitions; T with a mere mention.
 use Prim.Native.Nat.{ℕ, _≤_}
 use mathlib.Core.Path.{_≡_}
 use mathlib.Core.Bool.{Bool}
@@ -6,7 +6,7 @@ use mathlib.Core.List.{List, [], _∷_, _++_}
 use mathlib.Core.Logic.{_↔_}
 use lib.Dec.{T, ltb, eqb}
 use lib.ListN.{length, replicate}
-use Rattle.graph.specs.Graph.{Graph, graph, rev}
+use Rattle.graph.specs.Graph.{Graph, graph, table, fullMask, rev}
 use Rattle.graph.specs.Numbers.{mark}
 use Rattle.graph.specs.Search.{every, reached, labels, looked}
 use Rattle.graph.specs.Sets.{bit, word}
@@ -17,7 +17,7 @@ use Rattle.graph.specs.Limits.{numbersNeeded, wordsNeeded}
 use Rattle.graph.specs.Pivot.{draw}
 use Rattle.graph.specs.Summary.{summary}
 use Rattle.graph.specs.Refusal.{tableRefusal}
-use Rattle.paths.specs.Promise.{Call, distance, pathRefusal}
+use Rattle.paths.specs.Promise.{Call, collection, distance, pathRefusal}
 use Rattle.text.specs.Market.{Table, Result, market, banner, done as read, refused as unread}
 use Rattle.entry.specs.LabelText.{entryLimits}
 
@@ -28,8 +28,19 @@ sourcesT = 0 ∷ 1 ∷ 2 ∷ 2 ∷ 3 ∷ 4 ∷ 5 ∷ []
 abbrev pub targetsT : List ℕ
 targetsT = 1 ∷ 2 ∷ 0 ∷ 3 ∷ 4 ∷ 3 ∷ 5 ∷ []
 
+-- every reference is of kind 0; or 2→0 is a mere mention, of kind 1
+abbrev pub kindsT : List ℕ
+kindsT = 0 ∷ 0 ∷ 0 ∷ 0 ∷ 0 ∷ 0 ∷ 0 ∷ []
+
+abbrev pub mentionsT : List ℕ
+mentionsT = 0 ∷ 0 ∷ 1 ∷ 0 ∷ 0 ∷ 0 ∷ 0 ∷ []
+
 abbrev pub collectionT : Graph
-collectionT = graph 6 sourcesT targetsT
+collectionT = table 6 sourcesT targetsT kindsT fullMask
+
+-- all kinds but 1 count
+abbrev pub hardT : Graph
+hardT = table 6 sourcesT targetsT mentionsT 253
 
 abbrev pub labelsT : List ℕ
 labelsT = 0 ∷ 0 ∷ 0 ∷ 3 ∷ 3 ∷ 5 ∷ []
@@ -44,12 +55,14 @@ Finds g permitted start w k =
     (word (reached g permitted start) ≡ w) × (looked g (mark (reached g permitted start)) ≡ k)
 
 -- the call for the path in T from u to v, with room for k edges and as much working memory as T needs
-abbrev pub asking : (u v k : ℕ) → Call
-asking u v k =
+abbrev pub asking : List ℕ → (mask u v k : ℕ) → Call
+asking kinds mask u v k =
     record {
       n = 6;
       sources = sourcesT;
       targets = targetsT;
+      kinds = kinds;
+      mask = mask;
       u = u;
       v = v;
       room = replicate k 0;
@@ -57,9 +70,9 @@ asking u v k =
       words = replicate (wordsNeeded 6) 0;
     }
 
--- the call c is not refused, and what it writes is the path es of T
+-- the call c is not refused, and what it writes is the path es
 abbrev pub Walks : Call → List ℕ → Type 0
-Walks c es = (pathRefusal c ≡ 0) × (walk collectionT (c .u) (distance c) (c .v) ≡ es)
+Walks c es = (pathRefusal c ≡ 0) × (walk (collection c) (c .u) (distance c) (c .v) ≡ es)
 
 pub record Facts : Type 0 where
   -- labels of T, of n = 0, and of n = 1 with no edge
@@ -77,9 +90,9 @@ pub record Facts : Type 0 where
   -- these words are sets: bit v of a word is 1 exactly if v is marked
   pub words-are-sets : (l : List Bool) → length l ≤ 64 → (v : ℕ) → (bit (word l ∷ []) v ≡ 1) ↔ T (mark l v)
   -- the path from 0 to 4, also with room for 3 edges, and the path from 4 to 0
-  pub p9 : Walks (asking 0 4 4) (0 ∷ 1 ∷ 3 ∷ 4 ∷ [])
-  pub p9-room : pathRefusal (asking 0 4 3) ≡ 12
-  pub p10 : pathRefusal (asking 4 0 6) ≡ 11
+  pub p9 : Walks (asking kindsT fullMask 0 4 4) (0 ∷ 1 ∷ 3 ∷ 4 ∷ [])
+  pub p9-room : pathRefusal (asking kindsT fullMask 0 4 3) ≡ 12
+  pub p10 : pathRefusal (asking kindsT fullMask 4 0 6) ≡ 11
   -- the generator from 0
   pub p11 : draw 0 ≡ 1013904223
   pub p11-next : draw (draw 0) ≡ 1196435762
@@ -103,8 +116,21 @@ pub record Runs : Type 0 where
   pub columns-pass : verdict collectionT columnsT ≡ accepted
   pub five-labelled-three : verdict collectionT (relabelled columnsT (0 ∷ 0 ∷ 0 ∷ 3 ∷ 3 ∷ 3 ∷ [])) ≡ failed 2 5
   pub ranks-zero : verdict collectionT (reranked columnsT (0 ∷ 0 ∷ 0 ∷ 0 ∷ 0 ∷ 0 ∷ [])) ≡ failed 5 3
-  pub most-pass : tableRefusal 65536 [] [] ≡ 0
-  pub one-more : tableRefusal 65537 [] [] ≡ 1
+  pub most-pass : tableRefusal 65536 [] [] [] ≡ 0
+  pub one-more : tableRefusal 65537 [] [] [] ≡ 1
   -- the size lines `512 512 0` and `513 513 0`
   pub program-passes : readingOf (53 ∷ 49 ∷ 50 ∷ 32 ∷ 53 ∷ 49 ∷ 50 ∷ 32 ∷ 48 ∷ []) ≡ read (record { n = 512; edges = [] })
   pub program-refuses : readingOf (53 ∷ 49 ∷ 51 ∷ 32 ∷ 53 ∷ 49 ∷ 51 ∷ 32 ∷ 48 ∷ []) ≡ unread 1
+
+-- T with a mention: with it the ring 0, 1, 2 is closed, without it it is none
+pub record Mentions : Type 0 where
+  pub bound : labels (table 6 sourcesT targetsT mentionsT fullMask) ≡ labelsT
+  pub broken : labels hardT ≡ 0 ∷ 1 ∷ 2 ∷ 3 ∷ 3 ∷ 5 ∷ []
+  pub ranks : certificate hardT (labels hardT) .rank ≡ 0 ∷ 1 ∷ 2 ∷ 3 ∷ 3 ∷ 0 ∷ []
+  pub forward : Finds hardT every (eqb 0) 31 5
+  pub backward : Finds (rev hardT) every (eqb 0) 1 0
+  pub no-way-back : pathRefusal (asking mentionsT 253 2 0 6) ≡ 11
+  -- the out-edge of 2 is the mention
+  pub columns-fail : verdict hardT columnsT ≡ failed 4 2
+  pub six-kinds : tableRefusal 6 sourcesT targetsT (0 ∷ 0 ∷ 0 ∷ 0 ∷ 0 ∷ 0 ∷ []) ≡ 21
+  pub kind-eight : tableRefusal 6 sourcesT targetsT (0 ∷ 0 ∷ 8 ∷ 0 ∷ 0 ∷ 0 ∷ 0 ∷ []) ≡ 22

@@ -1,4 +1,4 @@
-// Runs the functions on the facts of document 01 and writes what they give: P1 to P11, then what is only run.
+// Runs the functions on the facts of document 01 and writes what they give: P1 to P11, what is only run, then T with a mention.
 mod columns;
 mod components;
 mod draws;
@@ -20,4 +20,8 @@ fn main() {
     columns::judge();
     tables::run();
     texts::run();
+    components::mentions();
+    columns::without_mentions();
+    searches::without_mentions();
+    walks::without_mentions();
 }
