@@ -4,8 +4,9 @@
 
 enum { MOST = 130, EDGES = 400 };
 
-static uint32_t sources[EDGES], targets[EDGES], label[MOST], first[MOST], numbers[12 * MOST + 2 * EDGES + 16];
-static uint64_t words[6 * 3];
+static uint32_t sources[EDGES], targets[EDGES], label[MOST], first[MOST], numbers[TINOWEALA_NUMBERS(MOST, EDGES)];
+static const uint8_t kinds[EDGES] = {0};
+static uint64_t words[TINOWEALA_WORDS(MOST)];
 static struct tinoweala_part waiting[MOST];
 static const uint32_t list[] = {500, 3, 0, 7, 3, 64, 129, 5, 1};
 static size_t edges;
@@ -43,8 +44,12 @@ static void drawn(uint32_t n, size_t m, uint32_t from) {
 static bool run(size_t n, uint32_t method, uint32_t kind, uint32_t order) {
     struct tinoweala_chooser chooser = {kind, 7};
     size_t draws = 0;
-    if (tinoweala_decompose(n, sources, edges, targets, edges, method, order, &chooser, list, sizeof list / sizeof *list, waiting, MOST, label, n, numbers, sizeof numbers / sizeof *numbers, words, sizeof words / sizeof *words, &draws)) return false;
-    if (kind != 1 && (draws != 0 || chooser.state != 7)) return false;
+    uint32_t no = tinoweala_decompose(
+        n, sources, edges, targets, edges, kinds, edges, TINOWEALA_EVERY_KIND, method, order, &chooser, list,
+        sizeof list / sizeof *list, waiting, MOST, label, n, numbers, sizeof numbers / sizeof *numbers, words,
+        sizeof words / sizeof *words, &draws);
+    if (no != TINOWEALA_DONE) return false;
+    if (kind != TINOWEALA_PIVOT_DRAWN && (draws != 0 || chooser.state != 7)) return false;
     return draws <= 2 * n;
 }
 

@@ -2,7 +2,7 @@
 #include <stdio.h>
 #include "tinoweala.h"
 
-enum { MOST = 8, NUMBERS = 12 * MOST + 2 * MOST + 16, WORDS = 6 };
+enum { MOST = 8, NUMBERS = TINOWEALA_NUMBERS(MOST, MOST), WORDS = TINOWEALA_WORDS(MOST) };
 
 static const char text[] =
     "%%MatrixMarket matrix coordinate pattern general\n"
@@ -11,6 +11,7 @@ static const char text[] =
 
 static size_t n, m;
 static uint32_t sources[MOST], targets[MOST];
+static const uint8_t kinds[MOST] = {0}; /* a text has none: zeros */
 static uint32_t numbers[NUMBERS];
 static uint64_t words[WORDS];
 
@@ -26,21 +27,26 @@ static void search(uint64_t starts, uint64_t permitted, bool backward) {
     uint64_t reached = 0;
     size_t vertices = 0, edges = 0;
     uint32_t no = tinoweala_search(
-        n, sources, m, targets, m, &starts, 1, &permitted, 1, backward, &reached, 1, numbers, NUMBERS, words, WORDS, &vertices, &edges);
-    printf("search %s: %u, set %lu, %lu vertices, %lu edges\n", backward ? "backward" : "forward", no, (unsigned long)reached, (unsigned long)vertices, (unsigned long)edges);
+        n, sources, m, targets, m, kinds, m, TINOWEALA_EVERY_KIND, &starts, 1, &permitted, 1, backward, &reached, 1, numbers,
+        NUMBERS, words, WORDS, &vertices, &edges);
+    printf(
+        "search %s: %u, set %lu, %lu vertices, %lu edges\n", backward ? "backward" : "forward", no, (unsigned long)reached,
+        (unsigned long)vertices, (unsigned long)edges);
 }
 
 static void trim(uint64_t part) {
     uint64_t left = 0;
     size_t vertices = 0;
-    uint32_t no = tinoweala_trim(n, sources, m, targets, m, &part, 1, &left, 1, numbers, NUMBERS, words, WORDS, &vertices);
+    uint32_t no = tinoweala_trim(
+        n, sources, m, targets, m, kinds, m, TINOWEALA_EVERY_KIND, &part, 1, &left, 1, numbers, NUMBERS, words, WORDS, &vertices);
     printf("trim: %u, set %lu, %lu vertices\n", no, (unsigned long)left, (unsigned long)vertices);
 }
 
 static void path(size_t u, size_t v, size_t room_len) {
     uint32_t room[MOST];
     size_t length = 0;
-    uint32_t no = tinoweala_path(n, sources, m, targets, m, u, v, room, room_len, numbers, NUMBERS, words, WORDS, &length);
+    uint32_t no = tinoweala_path(
+        n, sources, m, targets, m, kinds, m, TINOWEALA_EVERY_KIND, u, v, room, room_len, numbers, NUMBERS, words, WORDS, &length);
     printf("path from %lu to %lu: %u, edges", (unsigned long)u, (unsigned long)v, no);
     for (size_t i = 0; i < length; i++) {
         printf(" %u", room[i]);
@@ -52,7 +58,8 @@ static void check(const uint32_t *of_rank) {
     uint32_t failed = 0;
     size_t place = 0;
     uint32_t no = tinoweala_check_certificate(
-        n, sources, m, targets, m, label, n, of_rank, n, in_edge, n, in_distance, n, out_edge, n, out_distance, n, &failed, &place);
+        n, sources, m, targets, m, kinds, m, TINOWEALA_EVERY_KIND, label, n, of_rank, n, in_edge, n, in_distance, n, out_edge, n,
+        out_distance, n, &failed, &place);
     printf("certificate: %u, check %u, place %lu\n", no, failed, (unsigned long)place);
 }
 
@@ -60,7 +67,9 @@ int main(void) {
     static const uint32_t no_rank[] = {0, 0, 0, 0, 0, 0};
     uint32_t no = tinoweala_read_text((const uint8_t *)text, sizeof text - 1, sources, MOST, targets, MOST, &n, &m);
     printf("text: %u, %lu vertices, %lu edges\n", no, (unsigned long)n, (unsigned long)m);
-    printf("table: %u, with one vertex less: %u\n", tinoweala_check_table(n, sources, m, targets, m), tinoweala_check_table(n - 1, sources, m, targets, m));
+    printf("table: %u\n", tinoweala_check_table(n, sources, m, targets, m, kinds, m));
+    printf("table with one vertex less: %u\n", tinoweala_check_table(n - 1, sources, m, targets, m, kinds, m));
+    printf("table with one kind less: %u\n", tinoweala_check_table(n, sources, m, targets, m, kinds, m - 1));
     search(8, 63, false);
     search(8, 63, true);
     search(1, 7, false);
