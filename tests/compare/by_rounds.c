@@ -1,7 +1,7 @@
 #include "definitions.h"
 
 struct graph turned(const struct graph *g) {
-    return (struct graph){g->n, g->m, g->to, g->from};
+    return (struct graph){g->n, g->m, g->to, g->from, g->kinds, g->mask};
 }
 
 const struct ways *ways_for(size_t n) {
@@ -14,7 +14,7 @@ static void reach(const struct graph *g, const bool *permitted, bool *mark) {
         grew = false;
         for (size_t e = 0; e < g->m; e++) {
             uint32_t u = g->from[e], v = g->to[e];
-            if (mark[u] && permitted[v] && !mark[v]) mark[v] = grew = true;
+            if (counts(g, e) && mark[u] && permitted[v] && !mark[v]) mark[v] = grew = true;
         }
     }
 }
@@ -25,7 +25,7 @@ static void trim(const struct graph *g, bool *part) {
         bool entered[SMALL] = {false}, left[SMALL] = {false};
         for (size_t e = 0; e < g->m; e++) {
             uint32_t u = g->from[e], v = g->to[e];
-            if (part[u] && part[v]) left[u] = entered[v] = true;
+            if (counts(g, e) && part[u] && part[v]) left[u] = entered[v] = true;
         }
         went = false;
         for (size_t v = 0; v < g->n; v++) {
@@ -63,7 +63,7 @@ static void distances(const struct graph *g, size_t u, uint32_t *distance) {
     for (size_t v = 0; v < g->n; v++) distance[v] = v == u ? 0 : FAR;
     for (uint32_t d = 0; d < g->n; d++) {
         for (size_t e = 0; e < g->m; e++) {
-            if (distance[g->from[e]] == d && distance[g->to[e]] == FAR) distance[g->to[e]] = d + 1;
+            if (counts(g, e) && distance[g->from[e]] == d && distance[g->to[e]] == FAR) distance[g->to[e]] = d + 1;
         }
     }
 }
@@ -83,7 +83,7 @@ static void ranks(const struct graph *g, const uint32_t *label, uint32_t *rank) 
         for (size_t e = 0; e < g->m; e++) {
             uint32_t u = g->from[e], v = g->to[e];
             uint32_t at_least = rank[u] + (label[u] != label[v]);
-            if (rank[v] < at_least) {
+            if (counts(g, e) && rank[v] < at_least) {
                 rank[v] = at_least;
                 grew = true;
             }

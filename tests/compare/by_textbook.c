@@ -1,6 +1,6 @@
 #include "definitions.h"
 
-/* The edges that leave a vertex: first[v], then next[e] after e, up to NONE. */
+/* The counted edges that leave a vertex: first[v], then next[e] after e, up to NONE. */
 #define NONE UINT32_C(4294967295)
 static uint32_t first[MOST_N], next[MOST_M];
 
@@ -10,6 +10,7 @@ static uint32_t waiting[MOST_N];
 static void list_edges(const struct graph *g) {
     for (size_t v = 0; v < g->n; v++) first[v] = NONE;
     for (size_t e = 0; e < g->m; e++) {
+        if (!counts(g, e)) continue;
         next[e] = first[g->from[e]];
         first[g->from[e]] = (uint32_t)e;
     }
@@ -37,7 +38,7 @@ static void peel(const struct graph *g, bool *part) {
     static uint32_t entering[MOST_N];
     size_t top = 0;
     for (size_t v = 0; v < g->n; v++) entering[v] = 0;
-    for (size_t e = 0; e < g->m; e++) entering[g->to[e]] += part[g->from[e]] && part[g->to[e]];
+    for (size_t e = 0; e < g->m; e++) entering[g->to[e]] += counts(g, e) && part[g->from[e]] && part[g->to[e]];
     list_edges(g);
     for (size_t v = 0; v < g->n; v++) {
         if (part[v] && entering[v] == 0) waiting[top++] = (uint32_t)v;

@@ -24,10 +24,11 @@ static const struct library plain = {
     plain_check_table, plain_search, plain_trim, plain_decompose, plain_path, plain_write_certificate,
     plain_check_certificate, plain_summary, plain_read_text, plain_write_labels, plain_label_text};
 
-const size_t entry_size[SLICES] = {4, 4, 8, 8, 8, 4, 8, 4, 4, 4, 4, 4, 4, 4, 4, 8, 1, 1, 8, 8, 8, 4, 4, 4};
+const size_t entry_size[SLICES] = {4, 4, 1, 8, 8, 8, 4, 8, 4, 4, 4, 4, 4, 4, 4, 4, 8, 1, 1, 8, 8, 8, 4, 4, 4};
 
 #define BIT(s) (UINT32_C(1) << (s))
-#define TABLE (BIT(SOURCES) | BIT(TARGETS))
+#define EDGES (BIT(SOURCES) | BIT(TARGETS))
+#define TABLE (EDGES | BIT(KINDS))
 #define MEMORY (BIT(NUMBERS) | BIT(WORDS))
 #define CERTIFICATE (BIT(LABEL) | BIT(RANK) | BIT(IN_EDGE) | BIT(IN_DISTANCE) | BIT(OUT_EDGE) | BIT(OUT_DISTANCE))
 static const uint32_t taken[FUNCTIONS] = {
@@ -39,7 +40,7 @@ static const uint32_t taken[FUNCTIONS] = {
     [WRITE_CERTIFICATE] = TABLE | CERTIFICATE | MEMORY,
     [CHECK_CERTIFICATE] = TABLE | CERTIFICATE | BIT(VALUE_1) | BIT(COUNT_1),
     [SUMMARY] = BIT(LABEL) | BIT(VALUE_1) | BIT(VALUE_2) | BIT(VALUE_3),
-    [READ_TEXT] = BIT(TEXT) | TABLE | BIT(COUNT_1) | BIT(COUNT_2),
+    [READ_TEXT] = BIT(TEXT) | EDGES | BIT(COUNT_1) | BIT(COUNT_2),
     [WRITE_LABELS] = BIT(LABEL) | BIT(OUT) | BIT(COUNT_1),
     [LABEL_TEXT] = BIT(TEXT) | BIT(OUT),
 };
@@ -70,6 +71,8 @@ struct call call_on_table(enum function f) {
     c.n = table.n;
     give(&c, SOURCES, table.sources, table.m);
     give(&c, TARGETS, table.targets, table.m);
+    give(&c, KINDS, table.kinds, table.m);
+    c.mask = table.mask;
     for (int s = STARTS; s <= SET; s++) give(&c, s, NULL, tinoweala_set_words(table.n));
     for (int s = WAITING; s <= ROOM; s++) give(&c, s, NULL, table.n);
     give(&c, NUMBERS, NULL, tinoweala_numbers(table.n, table.m));
@@ -93,33 +96,34 @@ static size_t *count(enum slice s, enum place p) {
 #define COLUMN(s) (uint32_t *)lent(s, p), c->given[s].len
 #define A_SET(s) (uint64_t *)lent(s, p), c->given[s].len
 #define BYTES(s) (uint8_t *)lent(s, p), c->given[s].len
+#define A_TABLE c->n, COLUMN(SOURCES), COLUMN(TARGETS), BYTES(KINDS)
 
 /* Makes the call on the slices at place p. */
 static int64_t invoke(const struct library *l, const struct call *c, enum place p) {
     switch (c->function) {
     case CHECK_TABLE:
-        return l->check_table(c->n, COLUMN(SOURCES), COLUMN(TARGETS));
+        return l->check_table(A_TABLE);
     case SEARCH:
         return l->search(
-            c->n, COLUMN(SOURCES), COLUMN(TARGETS), A_SET(STARTS), A_SET(PERMITTED), c->backward, A_SET(SET), COLUMN(NUMBERS), A_SET(WORDS),
+            A_TABLE, c->mask, A_SET(STARTS), A_SET(PERMITTED), c->backward, A_SET(SET), COLUMN(NUMBERS), A_SET(WORDS),
             count(COUNT_1, p), count(COUNT_2, p));
     case TRIM:
         return l->trim(
-            c->n, COLUMN(SOURCES), COLUMN(TARGETS), A_SET(STARTS), A_SET(SET), COLUMN(NUMBERS), A_SET(WORDS), count(COUNT_1, p));
+            A_TABLE, c->mask, A_SET(STARTS), A_SET(SET), COLUMN(NUMBERS), A_SET(WORDS), count(COUNT_1, p));
     case DECOMPOSE:
         return l->decompose(
-            c->n, COLUMN(SOURCES), COLUMN(TARGETS), c->method, c->order, lent(CHOOSER, p), COLUMN(LIST), lent(WAITING, p), c->given[WAITING].len,
+            A_TABLE, c->mask, c->method, c->order, lent(CHOOSER, p), COLUMN(LIST), lent(WAITING, p), c->given[WAITING].len,
             COLUMN(LABEL), COLUMN(NUMBERS), A_SET(WORDS), count(COUNT_1, p));
     case PATH:
         return l->path(
-            c->n, COLUMN(SOURCES), COLUMN(TARGETS), c->u, c->v, COLUMN(ROOM), COLUMN(NUMBERS), A_SET(WORDS), count(COUNT_1, p));
+            A_TABLE, c->mask, c->u, c->v, COLUMN(ROOM), COLUMN(NUMBERS), A_SET(WORDS), count(COUNT_1, p));
     case WRITE_CERTIFICATE:
         return l->write_certificate(
-            c->n, COLUMN(SOURCES), COLUMN(TARGETS), COLUMN(LABEL), COLUMN(RANK), COLUMN(IN_EDGE), COLUMN(IN_DISTANCE), COLUMN(OUT_EDGE),
+            A_TABLE, c->mask, COLUMN(LABEL), COLUMN(RANK), COLUMN(IN_EDGE), COLUMN(IN_DISTANCE), COLUMN(OUT_EDGE),
             COLUMN(OUT_DISTANCE), COLUMN(NUMBERS), A_SET(WORDS));
     case CHECK_CERTIFICATE:
         return l->check_certificate(
-            c->n, COLUMN(SOURCES), COLUMN(TARGETS), COLUMN(LABEL), COLUMN(RANK), COLUMN(IN_EDGE), COLUMN(IN_DISTANCE), COLUMN(OUT_EDGE),
+            A_TABLE, c->mask, COLUMN(LABEL), COLUMN(RANK), COLUMN(IN_EDGE), COLUMN(IN_DISTANCE), COLUMN(OUT_EDGE),
             COLUMN(OUT_DISTANCE), value(VALUE_1, p), count(COUNT_1, p));
     case SUMMARY:
         return l->summary(c->n, COLUMN(LABEL), value(VALUE_1, p), value(VALUE_2, p), value(VALUE_3, p));

@@ -11,8 +11,8 @@ enum function {
 
 /* The slices that functions are lent. A single number is a slice of one entry: COUNTS of size_t, VALUES of 32 bits. */
 enum slice {
-    SOURCES, TARGETS, STARTS, PERMITTED, SET, LIST, WAITING, LABEL, RANK, IN_EDGE, IN_DISTANCE, OUT_EDGE, OUT_DISTANCE, ROOM, NUMBERS, WORDS,
-    TEXT, OUT, CHOOSER, COUNT_1, COUNT_2, VALUE_1, VALUE_2, VALUE_3, SLICES
+    SOURCES, TARGETS, KINDS, STARTS, PERMITTED, SET, LIST, WAITING, LABEL, RANK, IN_EDGE, IN_DISTANCE, OUT_EDGE, OUT_DISTANCE, ROOM, NUMBERS,
+    WORDS, TEXT, OUT, CHOOSER, COUNT_1, COUNT_2, VALUE_1, VALUE_2, VALUE_3, SLICES
 };
 
 /* A slice as it is given: its first entries are the content, the others hold a pattern. */
@@ -30,9 +30,11 @@ struct spoil {
 
 enum { MOST_SPOILS = 3 };
 
+/* The mask is that of the edges' kinds; kind is the chooser's. */
 struct call {
     enum function function;
     size_t n, u, v;
+    uint8_t mask;
     uint32_t method, order, kind, state;
     bool backward;
     struct given given[SLICES];

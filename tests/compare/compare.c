@@ -13,17 +13,19 @@ static enum place current_place;
 static int64_t wanted;
 static unsigned long calls;
 static bool agreed;
+static void (*compared_by)(const struct call *c);
 static uint32_t numbers[FUNCTIONS], checks;
 
 static const char *const function_names[FUNCTIONS] = {
     "check_table", "search", "trim", "decompose", "path", "write_certificate", "check_certificate", "summary", "read_text", "write_labels", "label_text"};
 static const char *const slice_names[SLICES] = {
-    "sources", "targets", "starts", "permitted", "set", "list", "waiting", "label", "rank", "in_edge", "in_distance", "out_edge", "out_distance", "room",
+    "sources", "targets", "kinds", "starts", "permitted", "set", "list", "waiting", "label", "rank", "in_edge", "in_distance", "out_edge", "out_distance", "room",
     "numbers", "words", "text", "out", "chooser", "first size", "second size", "first number", "second number", "third number"};
 
 void begin_calls(void) {
     calls = 0;
     agreed = true;
+    compare_by(compare_once);
 }
 
 unsigned long calls_made(void) {
@@ -54,13 +56,17 @@ const void *left_in(enum slice s) {
     return lent(s, PLAIN);
 }
 
-static void say_edges(void) {
+static void say_table(void) {
     const uint32_t *from = lent(SOURCES, PLAIN), *to = lent(TARGETS, PLAIN);
+    const uint8_t *kinds = lent(KINDS, PLAIN);
     size_t m = current.given[SOURCES].len;
     if (m > current.given[TARGETS].len) m = current.given[TARGETS].len;
     printf("    edges:");
     for (size_t e = 0; e < m && e < 500; e++) printf(" %u>%u", from[e], to[e]);
     printf("%s\n", m > 500 ? " .." : "");
+    printf("    mask %u, kinds:", current.mask);
+    for (size_t e = 0; e < current.given[KINDS].len && e < 500; e++) printf(" %u", kinds[e]);
+    printf("%s\n", current.given[KINDS].len > 500 ? " .." : "");
 }
 
 static void say_text(void) {
@@ -85,7 +91,7 @@ void say_call(void) {
     for (size_t i = 0; i < c->spoil_count; i++) {
         printf("    spoilt: %s at %lu by %u\n", slice_names[c->spoils[i].slice], (unsigned long)c->spoils[i].entry, c->spoils[i].value);
     }
-    if (takes(c->function, SOURCES) && c->function != READ_TEXT) say_edges();
+    if (takes(c->function, KINDS)) say_table();
     if (takes(c->function, TEXT)) say_text();
 }
 
@@ -143,7 +149,7 @@ static void judge_draws(const struct call *c, enum place p) {
     if (c->function != DECOMPOSE || c->kind != 1 || wanted != 0) return;
     size_t draws = *(size_t *)lent(COUNT_1, p);
     if (c->n <= MOST_COURSE) {
-        struct graph g = {c->n, c->given[SOURCES].len, lent(SOURCES, PLAIN), lent(TARGETS, PLAIN)};
+        struct graph g = {c->n, c->given[SOURCES].len, lent(SOURCES, PLAIN), lent(TARGETS, PLAIN), lent(KINDS, PLAIN), c->mask};
         draws = course_draws(&g, c->method, c->order, c->state);
     } else {
         plain_summary(c->n, lent(LABEL, PLAIN), c->n, &own, &rings, &largest);
@@ -185,7 +191,7 @@ static void compare_at(const struct call *c, enum place p) {
     }
 }
 
-void compare(const struct call *c) {
+void compare_once(const struct call *c) {
     if (!agreed) return;
     current = *c;
     calls++;
@@ -199,4 +205,12 @@ void compare(const struct call *c) {
     note_answer(c);
     if (low) compare_at(c, LOW);
     if (high) compare_at(c, HIGH);
+}
+
+void compare(const struct call *c) {
+    compared_by(c);
+}
+
+void compare_by(void (*way)(const struct call *c)) {
+    compared_by = way;
 }

@@ -5,7 +5,11 @@
 #include "call.h"
 
 /* The library is called at the low and at the high place; where much is lent, at one of them. After a difference a test makes no more calls. */
+void compare_once(const struct call *c);
+
+/* The same, until a test has its calls compared in another way. */
 void compare(const struct call *c);
+void compare_by(void (*way)(const struct call *c));
 
 /* The result of the last call, and what it left in a slice. */
 int64_t result(void);

@@ -72,7 +72,7 @@ static void split(size_t p, uint32_t q) {
 
 static bool entered(size_t v) {
     for (size_t e = 0; e < graph->m; e++) {
-        if (graph->to[e] == v && part[graph->from[e]] == REST) return true;
+        if (counts(graph, e) && graph->to[e] == v && part[graph->from[e]] == REST) return true;
     }
     return false;
 }
@@ -80,7 +80,7 @@ static bool entered(size_t v) {
 /* The successors in what remains become seeds. */
 static void seed_after(const bool *from, bool *seed) {
     for (size_t e = 0; e < graph->m; e++) {
-        if (from[graph->from[e]] && part[graph->to[e]] == REST) seed[graph->to[e]] = true;
+        if (counts(graph, e) && from[graph->from[e]] && part[graph->to[e]] == REST) seed[graph->to[e]] = true;
     }
 }
 

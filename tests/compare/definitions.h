@@ -1,5 +1,6 @@
 /*
- * The definitions of document 01 in two ways: word for word by rounds over the edges, for small tables, and by the ways of the textbooks, for large ones.
+ * The definitions of document 01 and request 7 in two ways: word for word by rounds over the edges, for small tables, and by the ways of the textbooks, for
+ * large ones.
  * Both are for tables that pass the table check; a test compares the two.
  */
 #ifndef DEFINITIONS_H
@@ -13,11 +14,18 @@ enum { MOST_N = 65536, MOST_M = 262144, SMALL = 40 };
 
 #define FAR UINT32_C(4294967295)
 
-/* Edge e leads from from[e] to to[e]. */
+/* Edge e leads from from[e] to to[e]. An edge that does not count is no edge, but it keeps its number. */
 struct graph {
     size_t n, m;
     const uint32_t *from, *to;
+    const uint8_t *kinds;
+    uint8_t mask;
 };
+
+/* Whether the mask has a 1 at the kind of edge e. */
+static inline bool counts(const struct graph *g, size_t e) {
+    return g->mask >> g->kinds[e] & 1;
+}
 
 struct ways {
     /* Of the marked vertices only those permitted stay marked, and all that they reach by chains that stay permitted becomes marked. */

@@ -26,6 +26,7 @@ struct test {
 #define CALLS(name, calls, function) {name, NULL, NULL, calls, function}
 #define DAMAGED(name, function) \
     CALLS(name ", damaged", damaged_calls, function), CALLS(name ", around the limits", calls_past_the_limits, function)
+#define REFUSED(name, function) DAMAGED(name, function), CALLS(name ", refused in every way", calls_refused_in_every_way, function)
 #define ON_COLUMNS(name, function) \
     CALLS(name ", all small columns", all_small_columns, function), CALLS(name ", drawn columns", drawn_columns, function), \
         CALLS(name ", largest columns", largest_columns, function)
@@ -35,20 +36,21 @@ struct test {
         CALLS(name ", size lines", size_lines, function), CALLS(name ", every room", every_room, function), \
         CALLS(name ", largest texts", largest_texts, function)
 
-/* Sets of numbers: 0 to k, and k alone. */
+/* Sets of numbers: 0 to k, k alone, and those of kinds. */
 #define UP_TO(k) ((UINT32_C(2) << (k)) - 1)
 #define NO(k) (UINT32_C(1) << (k))
+#define OF_KINDS (NO(21) | NO(22))
 
 /* Each function gave every number that it names and no other, and every check failed somewhere. */
 static void every_number(enum function all) {
     static const uint32_t named[FUNCTIONS] = {
-        [CHECK_TABLE] = UP_TO(4),
-        [SEARCH] = UP_TO(6),
-        [TRIM] = UP_TO(6),
-        [DECOMPOSE] = UP_TO(8),
-        [PATH] = UP_TO(4) | NO(6) | NO(9) | NO(11) | NO(12),
-        [WRITE_CERTIFICATE] = UP_TO(6) | NO(10),
-        [CHECK_CERTIFICATE] = UP_TO(5),
+        [CHECK_TABLE] = UP_TO(4) | OF_KINDS,
+        [SEARCH] = UP_TO(6) | OF_KINDS,
+        [TRIM] = UP_TO(6) | OF_KINDS,
+        [DECOMPOSE] = UP_TO(8) | OF_KINDS,
+        [PATH] = UP_TO(4) | OF_KINDS | NO(6) | NO(9) | NO(11) | NO(12),
+        [WRITE_CERTIFICATE] = UP_TO(6) | OF_KINDS | NO(10),
+        [CHECK_CERTIFICATE] = UP_TO(5) | OF_KINDS,
         [SUMMARY] = UP_TO(1) | NO(5) | NO(9),
         [READ_TEXT] = UP_TO(1) | NO(3) | NO(5) | NO(13) | NO(14) | NO(15),
         [WRITE_LABELS] = UP_TO(1) | NO(12),
@@ -67,13 +69,16 @@ static const struct test tests[] = {
     TABLES("definitions in two ways, all small tables", all_small_tables, ask_definitions),
     TABLES("definitions in two ways, drawn tables", drawn_tables, ask_definitions),
     TABLES("definitions in two ways, structured tables", structured_tables, ask_definitions),
-    ON_TABLES("check_table", ask_check_table), DAMAGED("check_table", CHECK_TABLE),
-    ON_TABLES("search", ask_search), DAMAGED("search", SEARCH),
-    ON_TABLES("trim", ask_trim), DAMAGED("trim", TRIM),
-    ON_TABLES("decompose", ask_decompose), DAMAGED("decompose", DECOMPOSE),
-    ON_TABLES("path", ask_path), DAMAGED("path", PATH),
-    ON_TABLES("write_certificate", ask_write_certificate), DAMAGED("write_certificate", WRITE_CERTIFICATE),
-    ON_TABLES("check_certificate", ask_check_certificate), DAMAGED("check_certificate", CHECK_CERTIFICATE),
+    ON_TABLES("check_table", ask_check_table), REFUSED("check_table", CHECK_TABLE),
+    ON_TABLES("search", ask_search), REFUSED("search", SEARCH),
+    ON_TABLES("trim", ask_trim), REFUSED("trim", TRIM),
+    ON_TABLES("decompose", ask_decompose), REFUSED("decompose", DECOMPOSE),
+    ON_TABLES("path", ask_path), REFUSED("path", PATH),
+    ON_TABLES("write_certificate", ask_write_certificate), REFUSED("write_certificate", WRITE_CERTIFICATE),
+    ON_TABLES("check_certificate", ask_check_certificate), REFUSED("check_certificate", CHECK_CERTIFICATE),
+    TABLES("a drawn mask, against counted edges alone", some_drawn_tables, ask_counted_alone),
+    TABLES("mask 255, against kinds of zeros", some_drawn_tables, ask_full_mask),
+    TABLES("mask 0, against no edge", some_drawn_tables, ask_empty_mask),
     ON_COLUMNS("summary", SUMMARY), DAMAGED("summary", SUMMARY),
     ON_COLUMNS("write_labels", WRITE_LABELS),
     ON_TEXTS("read_text", READ_TEXT),

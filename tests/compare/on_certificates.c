@@ -6,7 +6,7 @@
 static uint32_t columns[OUT_DISTANCE + 1][MOST_N];
 
 static void set_right_labels(void) {
-    struct graph g = {table.n, table.m, table.sources, table.targets};
+    struct graph g = graph_of_table();
     ways_for(table.n)->labels(&g, columns[LABEL]);
 }
 
@@ -29,6 +29,13 @@ static void all_label_columns(void) {
     }
 }
 
+/* The labels with another mask, which may be as right as those with the table's own. */
+static void write_with_another_mask(void) {
+    struct call c = writing();
+    c.mask = below(3) ? (uint8_t)drawn() : 255;
+    compare(&c);
+}
+
 /* The right labels, then some with wrong entries. */
 void ask_write_certificate(void) {
     if (table_is_tiny()) all_label_columns();
@@ -41,6 +48,7 @@ void ask_write_certificate(void) {
         spoil(&wrong, LABEL, v, (uint32_t)values[below(6)]);
         compare(&wrong);
     }
+    if (!table_is_large()) write_with_another_mask();
 }
 
 /* Fills the columns with the right labels and what is written for them; false if that failed. */
@@ -101,15 +109,39 @@ static void spoil_along_an_edge(void) {
     compare(&c);
 }
 
+/* Any edge between vertices of one label becomes an in-edge or out-edge, with the distance that fits it if it counts. */
+static void spoil_by_another_edge(void) {
+    struct call c = checking();
+    if (table.m == 0) return;
+    size_t e = below(table.m);
+    bool in = below(2);
+    uint32_t v = (in ? table.targets : table.sources)[e], from = (in ? table.sources : table.targets)[e];
+    if (columns[LABEL][v] == v || columns[LABEL][from] != columns[LABEL][v]) return;
+    spoil(&c, in ? IN_EDGE : OUT_EDGE, v, (uint32_t)e);
+    spoil(&c, in ? IN_DISTANCE : OUT_DISTANCE, v, columns[in ? IN_DISTANCE : OUT_DISTANCE][from] + 1);
+    compare(&c);
+}
+
+static void check_with_another_mask(void) {
+    struct call c = checking();
+    c.mask = below(3) ? (uint8_t)drawn() : 255;
+    compare(&c);
+}
+
 void ask_check_certificate(void) {
     if (!certify()) return;
     struct call c = checking();
     compare(&c);
     if (result() == 0 && *(const uint32_t *)left_in(VALUE_1) != 0) fail("what the writer writes is not accepted");
     if (table.n == 0) return;
-    if (table.n <= 3 && table.m <= 3) spoil_all_cells();
+    if (table.n <= 3 && table.m <= 2 + below(2)) spoil_all_cells();
     for (size_t i = 0; i < rounds(8); i++) {
         spoil_some_cells();
-        spoil_along_an_edge();
+        if (below(2)) {
+            spoil_along_an_edge();
+        } else {
+            spoil_by_another_edge();
+        }
     }
+    if (!table_is_large()) check_with_another_mask();
 }

@@ -36,7 +36,7 @@ static void agree_on_columns(const struct graph *g) {
 }
 
 void ask_definitions(void) {
-    struct graph g = {table.n, table.m, table.sources, table.targets}, back = turned(&g);
+    struct graph g = graph_of_table(), back = turned(&g);
     if (table.n > SMALL) return;
     agree_on_sets(&g);
     agree_on_sets(&back);

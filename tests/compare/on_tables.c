@@ -10,8 +10,9 @@ void ask_check_table(void) {
     compare(&c);
     for (size_t i = 0; table.m > 0 && i < rounds(12); i++) {
         struct call spoilt = c;
-        size_t values[] = {table.n - 1, table.n, table.n + below(9), UINT32_C(4294967295)};
-        spoil(&spoilt, below(2) ? SOURCES : TARGETS, below(3) ? below(table.m) : table.m - 1, (uint32_t)values[below(4)]);
+        size_t values[] = {table.n - 1, table.n, table.n + below(9), UINT32_C(4294967295)}, kinds[] = {7, 8, below(256), 255};
+        if (below(3)) spoil(&spoilt, below(2) ? SOURCES : TARGETS, below(3) ? below(table.m) : table.m - 1, (uint32_t)values[below(4)]);
+        if (below(3)) spoil(&spoilt, KINDS, below(3) ? below(table.m) : table.m - 1, (uint32_t)kinds[below(4)]);
         compare(&spoilt);
     }
 }
@@ -102,7 +103,7 @@ static void decompose(uint32_t method, uint32_t kind, uint32_t order) {
     compare(&c);
 }
 
-/* Both methods, three kinds and both orders; of a large table two or three of the twelve. */
+/* Both methods, three pivot kinds and both orders; of a large table two or three of the twelve. */
 void ask_decompose(void) {
     size_t first = table_is_large() ? below(5) : 0, step = table_is_large() ? 5 : 1;
     for (size_t i = first; i < 12; i += step) decompose(i % 2, i / 2 % 3, i / 6);

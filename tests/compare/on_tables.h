@@ -13,4 +13,11 @@ void ask_check_certificate(void);
 /* The two ways of the definitions, against each other. */
 void ask_definitions(void);
 
+/* All of these calls but those of check_table, on the current table and on its counted edges alone, which are all of kind 0 and asked about with mask 255. */
+void ask_counted_alone(void);
+
+/* The same with the table's mask 255, so that only kinds differ, and with the table's mask 0, so that there is no edge. */
+void ask_full_mask(void);
+void ask_empty_mask(void);
+
 #endif

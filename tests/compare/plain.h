@@ -1,6 +1,6 @@
 /*
- * The plain implementation: for each public function one of the same type, written from document 01 alone. plain_decompose makes no draws:
- * who compares judges those of pivot kind 1, on small tables by a course of its own (course.h).
+ * The plain implementation: for each public function one of the same type, written from document 01 and request 7 alone. plain_decompose makes no
+ * draws: who compares judges those of pivot kind 1, on small tables by a course of its own (course.h).
  */
 #ifndef PLAIN_H
 #define PLAIN_H

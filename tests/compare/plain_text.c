@@ -124,10 +124,11 @@ uint32_t plain_write_labels(const uint32_t *label, size_t label_len, uint8_t *ou
 
 int64_t plain_label_text(const uint8_t *text, size_t text_len, uint8_t *out, size_t out_len) {
     static uint32_t from[4096], to[4096], label[512];
+    static const uint8_t no_kinds[4096];
     size_t n, m, bytes;
     uint32_t no = read_table(text, text_len, (struct limits){512, 4096, 4096}, from, to, &n, &m);
     if (no) return -(int64_t)no;
-    struct graph g = {n, m, from, to};
+    struct graph g = {n, m, from, to, no_kinds, 255};
     ways_for(n)->labels(&g, label);
     no = plain_write_labels(label, n, out, out_len, &bytes);
     return no ? -(int64_t)no : (int64_t)bytes;
