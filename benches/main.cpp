@@ -45,6 +45,7 @@ using Contenders = std::vector<Contender>;
 struct Lent {
     const Table &table;
     Room room;
+    std::vector<uint8_t> kinds;
     std::vector<uint64_t> words, starts, all, set;
     std::vector<tinoweala_part> waiting;
     std::vector<uint32_t> list, right, label, rank, in_edge, in_distance, out_edge, out_distance, path, edges, summary;
@@ -52,8 +53,9 @@ struct Lent {
     uint32_t far = 0, verdict = 9;
 
     explicit Lent(const Table &t)
-        : table(t), room(t), words(tinoweala_words(t.n)), starts(tinoweala_set_words(t.n), 1), all(starts.size(), ~uint64_t(0)), set(starts.size()), waiting(t.n), list(any_order(t.n)), right(t.n),
+        : table(t), room(t), kinds(t.kinds), words(tinoweala_words(t.n)), starts(tinoweala_set_words(t.n), 1), all(starts.size(), ~uint64_t(0)), set(starts.size()), waiting(t.n), list(any_order(t.n)), right(t.n),
           label(t.n), rank(t.n), in_edge(t.n), in_distance(t.n), out_edge(t.n), out_distance(t.n), path(t.n), edges(2 * t.m()), summary(3) {
+        kinds.resize(t.m());
         if (t.n % 64) all.back() = (uint64_t(1) << t.n % 64) - 1;
         plain_tarjan(table, room, right.data());
         plain_distances(table, room, 0, label.data());
@@ -61,25 +63,29 @@ struct Lent {
             if (label[v] < t.n && label[v] > label[far]) far = v;
         if (write_certificate()) fail("the certificate is refused");
     }
+    // A function of the library on the table, and on what else it is given.
+    template <class Function, class... Given>
+    uint32_t call(Function function, Given... given) {
+        return function(table.n, table.sources.data(), table.m(), table.targets.data(), table.m(), kinds.data(), kinds.size(), table.mask, given...);
+    }
     uint32_t decompose(uint32_t method, uint32_t kind) {
         tinoweala_chooser chooser = {kind, 1};
         size_t draws;
-        return tinoweala_decompose(
-            table.n, table.sources.data(), table.m(), table.targets.data(), table.m(), method, 0, &chooser, list.data(), table.n, waiting.data(), table.n, label.data(), table.n,
-            room.numbers.data(), room.numbers.size(), words.data(), words.size(), &draws);
+        return call(
+            tinoweala_decompose, method, TINOWEALA_NEWEST_FIRST, &chooser, list.data(), table.n, waiting.data(), table.n, label.data(), table.n, room.numbers.data(), room.numbers.size(),
+            words.data(), words.size(), &draws);
     }
     uint32_t write_certificate() {
         const size_t n = table.n;
-        return tinoweala_write_certificate(
-            n, table.sources.data(), table.m(), table.targets.data(), table.m(), right.data(), n, rank.data(), n, in_edge.data(), n, in_distance.data(), n, out_edge.data(), n,
-            out_distance.data(), n, room.numbers.data(), room.numbers.size(), words.data(), words.size());
+        return call(
+            tinoweala_write_certificate, right.data(), n, rank.data(), n, in_edge.data(), n, in_distance.data(), n, out_edge.data(), n, out_distance.data(), n, room.numbers.data(),
+            room.numbers.size(), words.data(), words.size());
     }
     void check_certificate() {
         const size_t n = table.n;
         size_t place;
-        if (tinoweala_check_certificate(
-                n, table.sources.data(), table.m(), table.targets.data(), table.m(), right.data(), n, rank.data(), n, in_edge.data(), n, in_distance.data(), n, out_edge.data(), n,
-                out_distance.data(), n, &verdict, &place))
+        if (call(
+                tinoweala_check_certificate, right.data(), n, rank.data(), n, in_edge.data(), n, in_distance.data(), n, out_edge.data(), n, out_distance.data(), n, &verdict, &place))
             fail("the checker refuses");
     }
     bool accepted() {
@@ -95,27 +101,21 @@ struct Lent {
     Reached search() {
         Reached found = {0, 0};
         const size_t size = set.size();
-        if (tinoweala_search(
-                table.n, table.sources.data(), table.m(), table.targets.data(), table.m(), starts.data(), size, all.data(), size, false, set.data(), size, room.numbers.data(),
-                room.numbers.size(), words.data(), words.size(), &found.vertices, &found.edges))
+        if (call(
+                tinoweala_search, starts.data(), size, all.data(), size, false, set.data(), size, room.numbers.data(), room.numbers.size(), words.data(), words.size(), &found.vertices,
+                &found.edges))
             fail("the search refuses");
         return found;
     }
     size_t trim() {
         size_t vertices = 0;
         const size_t size = set.size();
-        if (tinoweala_trim(
-                table.n, table.sources.data(), table.m(), table.targets.data(), table.m(), all.data(), size, set.data(), size, room.numbers.data(), room.numbers.size(), words.data(),
-                words.size(), &vertices))
-            fail("trimming refuses");
+        if (call(tinoweala_trim, all.data(), size, set.data(), size, room.numbers.data(), room.numbers.size(), words.data(), words.size(), &vertices)) fail("trimming refuses");
         return vertices;
     }
     size_t shortest() {
         size_t length = 0;
-        if (tinoweala_path(
-                table.n, table.sources.data(), table.m(), table.targets.data(), table.m(), 0, far, path.data(), path.size(), room.numbers.data(), room.numbers.size(), words.data(),
-                words.size(), &length))
-            fail("the path is refused");
+        if (call(tinoweala_path, 0, far, path.data(), path.size(), room.numbers.data(), room.numbers.size(), words.data(), words.size(), &length)) fail("the path is refused");
         return length;
     }
     void sum() {

@@ -8,7 +8,7 @@ static bool has(const std::vector<uint64_t> &set, uint32_t v) { return set[v / 6
 static void add(std::vector<uint64_t> &set, uint32_t v) { set[v / 64] |= uint64_t(1) << (v % 64); }
 
 Reached plain_search(const Table &table, Room &room, const std::vector<uint64_t> &starts, const std::vector<uint64_t> &permitted, std::vector<uint64_t> &reached) {
-    const auto [first, ends] = build_index(table.n, table.sources, table.targets, room.numbers.data());
+    const auto [first, ends] = build_index(table, table.sources, table.targets, room.numbers.data());
     uint32_t *queue = ends + table.m(), size = 0;
     size_t edges = 0;
     std::fill(reached.begin(), reached.end(), 0);
@@ -30,15 +30,17 @@ Reached plain_search(const Table &table, Room &room, const std::vector<uint64_t>
 size_t plain_trim(const Table &table, Room &room, const std::vector<uint64_t> &part, std::vector<uint64_t> &left) {
     const uint32_t n = table.n;
     const size_t m = table.m();
-    const Index out = build_index(n, table.sources, table.targets, room.numbers.data());
-    const Index in = build_index(n, table.targets, table.sources, out.ends + m);
+    const Index out = build_index(table, table.sources, table.targets, room.numbers.data());
+    const Index in = build_index(table, table.targets, table.sources, out.ends + m);
     uint32_t *leaving = in.ends + m, *entering = leaving + n, *queue = entering + n, size = 0;
     size_t stayed = 0;
     std::fill_n(leaving, 2 * size_t(n), 0u);
-    for (size_t e = 0; e < m; e++) {
-        const uint32_t source = table.sources[e], target = table.targets[e];
-        if (has(part, source) && has(part, target)) leaving[source]++, entering[target]++;
-    }
+    table.by_kinds([&](auto counts) {
+        for (size_t e = 0; e < m; e++) {
+            const uint32_t source = table.sources[e], target = table.targets[e];
+            if (has(part, source) && has(part, target)) leaving[source] += counts(e), entering[target] += counts(e);
+        }
+    });
     left = part;
     const auto examine = [&](uint32_t v) {
         if (!has(left, v) || (leaving[v] && entering[v])) return;
@@ -58,7 +60,7 @@ size_t plain_trim(const Table &table, Room &room, const std::vector<uint64_t> &p
 }
 
 void plain_distances(const Table &table, Room &room, uint32_t u, uint32_t *distance) {
-    const auto [first, ends] = build_index(table.n, table.sources, table.targets, room.numbers.data());
+    const auto [first, ends] = build_index(table, table.sources, table.targets, room.numbers.data());
     uint32_t *queue = ends + table.m(), size = 0;
     std::fill_n(distance, table.n, table.n + 1);
     distance[u] = 0;
@@ -75,8 +77,10 @@ size_t plain_path(const Table &table, Room &room, uint32_t u, uint32_t v, uint32
     uint32_t *distance = room.numbers.data() + 2 * size_t(table.n) + 1 + table.m(), *entered = distance + table.n;
     plain_distances(table, room, u, distance);
     if (distance[v] > table.n) return table.n;
-    for (size_t e = table.m(); e-- > 0;)
-        if (distance[table.targets[e]] == distance[table.sources[e]] + 1) entered[table.targets[e]] = uint32_t(e);
+    table.by_kinds([&](auto counts) {
+        for (size_t e = table.m(); e-- > 0;)
+            if (counts(e) & (distance[table.targets[e]] == distance[table.sources[e]] + 1)) entered[table.targets[e]] = uint32_t(e);
+    });
     const size_t length = distance[v];
     for (size_t i = length; i-- > 0;) {
         path[i] = entered[v];

@@ -17,11 +17,11 @@ struct Room {
     explicit Room(const Table &table) : numbers(12 * size_t(table.n) + 2 * table.m() + 16), frames(table.n + 1) {}
 };
 
-// The index of a column: the ends of the edges that begin at v stand at first[v] .. first[v + 1] - 1 of ends.
+// The index of a column: the ends of the edges that count and begin at v stand at first[v] .. first[v + 1] - 1 of ends. It uses n + m + 2 numbers.
 struct Index {
     uint32_t *first, *ends;
 };
-Index build_index(uint32_t n, const std::vector<uint32_t> &from, const std::vector<uint32_t> &to, uint32_t *room);
+Index build_index(const Table &table, const std::vector<uint32_t> &from, const std::vector<uint32_t> &to, uint32_t *room);
 
 struct Reached {
     size_t vertices, edges;

@@ -7,15 +7,16 @@
 #include "tinoweala.h"
 #include <stdio.h>
 
-enum { PAINTED = 1 << 20, PAINT = 0x5a, NUMBERS = 12 * MOST_N + 2 * MOST_M + 16, SET = MOST_N / 64 };
+enum { PAINTED = 1 << 20, PAINT = 0x5a, NUMBERS = TINOWEALA_NUMBERS(MOST_N, MOST_M), SET = TINOWEALA_SET_WORDS(MOST_N) };
 
 static uint32_t label[MOST_N], rank[MOST_N], in_edge[MOST_N], in_distance[MOST_N], out_edge[MOST_N], out_distance[MOST_N], room[MOST_N], list[MOST_N];
 static uint32_t sources[MOST_M], targets[MOST_M], numbers[NUMBERS], values[3];
+static const uint8_t no_kinds[MOST_M];
 static uint64_t all[SET], set[SET], words[6 * SET];
 static struct tinoweala_part waiting[MOST_N];
 static struct tinoweala_chooser chooser;
 static uint8_t out[1 << 20];
-static size_t counts[2];
+static size_t lengths[2];
 static uint32_t method, order, kind;
 static bool backward;
 static int64_t result;
@@ -28,27 +29,28 @@ static size_t set_words(void) {
     return tinoweala_set_words(table.n);
 }
 
-#define TABLE n(), table.sources, table.m, table.targets, table.m
+#define COLUMNS n(), table.sources, table.m, table.targets, table.m, no_kinds, table.m
+#define TABLE COLUMNS, TINOWEALA_EVERY_KIND
 #define MEMORY numbers, NUMBERS, words, 6 * SET
 
 static void check_table(void) {
-    result = tinoweala_check_table(TABLE);
+    result = tinoweala_check_table(COLUMNS);
 }
 
 static void search(void) {
-    result = tinoweala_search(TABLE, all, set_words(), all, set_words(), backward, set, set_words(), MEMORY, &counts[0], &counts[1]);
+    result = tinoweala_search(TABLE, all, set_words(), all, set_words(), backward, set, set_words(), MEMORY, &lengths[0], &lengths[1]);
 }
 
 static void trim(void) {
-    result = tinoweala_trim(TABLE, all, set_words(), set, set_words(), MEMORY, &counts[0]);
+    result = tinoweala_trim(TABLE, all, set_words(), set, set_words(), MEMORY, &lengths[0]);
 }
 
 static void decompose(void) {
-    result = tinoweala_decompose(TABLE, method, order, &chooser, list, MOST_N, waiting, MOST_N, label, n(), MEMORY, &counts[0]);
+    result = tinoweala_decompose(TABLE, method, order, &chooser, list, MOST_N, waiting, MOST_N, label, n(), MEMORY, &lengths[0]);
 }
 
 static void path(void) {
-    result = tinoweala_path(TABLE, 0, n() - 1, room, MOST_N, MEMORY, &counts[0]);
+    result = tinoweala_path(TABLE, 0, n() - 1, room, MOST_N, MEMORY, &lengths[0]);
 }
 
 static void write_certificate(void) {
@@ -58,7 +60,7 @@ static void write_certificate(void) {
 
 static void check_certificate(void) {
     result = tinoweala_check_certificate(
-        TABLE, label, n(), rank, n(), in_edge, n(), in_distance, n(), out_edge, n(), out_distance, n(), &values[0], &counts[0]);
+        TABLE, label, n(), rank, n(), in_edge, n(), in_distance, n(), out_edge, n(), out_distance, n(), &values[0], &lengths[0]);
 }
 
 static void summary(void) {
@@ -66,11 +68,11 @@ static void summary(void) {
 }
 
 static void read_text(void) {
-    result = tinoweala_read_text(text.bytes, text.len, sources, MOST_M, targets, MOST_M, &counts[0], &counts[1]);
+    result = tinoweala_read_text(text.bytes, text.len, sources, MOST_M, targets, MOST_M, &lengths[0], &lengths[1]);
 }
 
 static void write_labels(void) {
-    result = tinoweala_write_labels(label, n(), out, sizeof out, &counts[0]);
+    result = tinoweala_write_labels(label, n(), out, sizeof out, &lengths[0]);
 }
 
 static void label_text(void) {

@@ -38,6 +38,19 @@ Table scattered(uint32_t n, size_t m) {
 Table random_n(uint32_t n) { return scattered(n, n); }
 Table random_4n(uint32_t n) { return scattered(n, 4 * size_t(n)); }
 
+// The same edges with drawn kinds, of which those of the mask count.
+Table random_kinds(uint32_t n, uint8_t mask) {
+    Table table = random_4n(n);
+    Random random(362436069362436069u);
+    table.mask = mask;
+    while (table.kinds.size() < table.m()) table.kinds.push_back(uint8_t(random.below(8)));
+    return table;
+}
+
+Table all_kinds(uint32_t n) { return random_kinds(n, 255); }
+Table half_of_kinds(uint32_t n) { return random_kinds(n, 15); }
+Table none_of_kinds(uint32_t n) { return random_kinds(n, 0); }
+
 Table giant_ring(uint32_t n) {
     Table table(n);
     for (uint32_t v = 0; v < n; v++) table.edge(v, (v + 1) % n);
@@ -122,6 +135,9 @@ const std::vector<std::string> method_0 = {"method 0 kind 0"}, both = {"method 0
 const std::vector<Family> families = {
     {"random m = n", random_n},
     {"random m = 4n", random_4n},
+    {"8 of 8 kinds", all_kinds},
+    {"4 of 8 kinds", half_of_kinds},
+    {"0 of 8 kinds", none_of_kinds},
     {"power law", power_law},
     {"layered", layered},
     {"chain", chain},
