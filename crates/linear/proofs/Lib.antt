@@ -1,0 +1,11 @@
+pub mod Moved
+pub mod Step
+pub mod Closing
+pub mod Keeping
+pub mod Left
+pub mod Entering
+pub mod Working
+pub mod Roots
+pub mod Whole
+pub mod Unique
+pub mod Full
