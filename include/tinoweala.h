@@ -141,6 +141,22 @@ uint32_t tinoweala_trim(
     uint64_t *words, size_t words_len,
     size_t *vertices);
 
+/*
+ * The linear engine: 1, 2, 21, 3, 4, 22, 5, 6.
+ * label, n long (else 5), becomes the label column: the label of v is the smallest vertex that v reaches and
+ * that reaches v, by edges that count. label may hold anything before, and during the call it holds other
+ * numbers. On every table the search makes six steps for each vertex and one for each edge that counts: the
+ * first choice for labels. The decomposer, below, gives the same column by other engines.
+ */
+uint32_t tinoweala_label(
+    size_t n,
+    const uint32_t *sources, size_t sources_len,
+    const uint32_t *targets, size_t targets_len,
+    const uint8_t *kinds, size_t kinds_len, uint8_t mask,
+    uint32_t *label, size_t label_len,
+    uint32_t *numbers, size_t numbers_len,
+    uint64_t *words, size_t words_len);
+
 /* The methods of the decomposer. */
 enum tinoweala_method {
     TINOWEALA_FORWARD_BACKWARD = 0,
@@ -181,13 +197,13 @@ struct tinoweala_part {
 
 /*
  * The decomposer: 1, 2, 21, 3, 4, 22, 5, 6, 7, 8.
- * label, n long (else 5), becomes the label column: the label of v is the smallest vertex that v reaches and
- * that reaches v, by edges that count. It is the same for every method, order and chooser. list, the caller's
- * list, is read for TINOWEALA_PIVOT_LISTED alone; it may be empty and of any length. waiting, the list of
- * waiting parts, has at least n records (else 7); the first n are zero afterwards, the others as they were.
- * *draws becomes the number of draws: 0 but for TINOWEALA_PIVOT_DRAWN, which draws once for every pivot, at
- * least as often as there are labels shared by two or more vertices and at most 2 * n times. The chooser's
- * state is advanced that many times, its pivot kind stays.
+ * label, n long (else 5), becomes the label column, for every method, order and chooser the very one that
+ * tinoweala_label gives. list, the caller's list, is read for TINOWEALA_PIVOT_LISTED alone; it may be empty
+ * and of any length. waiting, the list of waiting parts, has at least n records (else 7); the first n are
+ * zero afterwards, the others as they were. *draws becomes the number of draws: 0 but for
+ * TINOWEALA_PIVOT_DRAWN, which draws once for every pivot, at least as often as there are labels shared by
+ * two or more vertices and at most 2 * n times. The chooser's state is advanced that many times, its pivot
+ * kind stays.
  */
 uint32_t tinoweala_decompose(
     size_t n,

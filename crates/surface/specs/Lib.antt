@@ -6,3 +6,4 @@ pub mod Check
 pub mod Summary
 pub mod Read
 pub mod Labels
+pub mod Engines

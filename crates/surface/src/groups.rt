@@ -1,6 +1,7 @@
-// The decomposer: the labels of a table.
+// The labels of a table: the decomposer and the linear engine.
 ghost use mathlib.Core.Path.{_≡_};
 ghost use Rattle.decompose.specs.Promise.{call, after};
+ghost use Rattle.linear.specs.Promise.{Promise};
 ghost use Rattle.surface.specs.Decompose.{told, Decomposed};
 use decompose::finish::Answer;
 use pivot::chooser::Chooser;
@@ -54,4 +55,20 @@ pub extern "C" fn tinoweala_decompose(
         words,
     );
     hand(answer, draws)
+}
+
+#[no_mangle]
+pub extern "C" fn tinoweala_label(
+    n: usize,
+    sources: &[u32],
+    targets: &[u32],
+    kinds: &[u8],
+    mask: u8,
+    label: &mut [u32],
+    numbers: &mut [u32],
+    words: &mut [u64],
+) -> u32
+    ensures { λ k. ⌜ Promise (record { n = n; sources = now (sources .entry); targets = now (targets .entry); kinds = now (kinds .entry); mask = mask; label = now (label .entry); numbers = now (numbers .entry); words = now (words .entry) }) (now (label .exit)) (now (numbers .exit)) (now (words .exit)) k ⌝ }
+{
+    linear::label(n, sources, targets, kinds, mask, label, numbers, words)
 }
