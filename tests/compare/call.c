@@ -8,6 +8,7 @@ struct library {
     __typeof__(tinoweala_search) *search;
     __typeof__(tinoweala_trim) *trim;
     __typeof__(tinoweala_decompose) *decompose;
+    __typeof__(tinoweala_label) *label;
     __typeof__(tinoweala_path) *path;
     __typeof__(tinoweala_write_certificate) *write_certificate;
     __typeof__(tinoweala_check_certificate) *check_certificate;
@@ -18,10 +19,10 @@ struct library {
 };
 
 static const struct library library = {
-    tinoweala_check_table, tinoweala_search, tinoweala_trim, tinoweala_decompose, tinoweala_path, tinoweala_write_certificate,
+    tinoweala_check_table, tinoweala_search, tinoweala_trim, tinoweala_decompose, tinoweala_label, tinoweala_path, tinoweala_write_certificate,
     tinoweala_check_certificate, tinoweala_summary, tinoweala_read_text, tinoweala_write_labels, tinoweala_label_text};
 static const struct library plain = {
-    plain_check_table, plain_search, plain_trim, plain_decompose, plain_path, plain_write_certificate,
+    plain_check_table, plain_search, plain_trim, plain_decompose, plain_label, plain_path, plain_write_certificate,
     plain_check_certificate, plain_summary, plain_read_text, plain_write_labels, plain_label_text};
 
 const size_t entry_size[SLICES] = {4, 4, 1, 8, 8, 8, 4, 8, 4, 4, 4, 4, 4, 4, 4, 4, 8, 1, 1, 8, 8, 8, 4, 4, 4};
@@ -36,6 +37,7 @@ static const uint32_t taken[FUNCTIONS] = {
     [SEARCH] = TABLE | BIT(STARTS) | BIT(PERMITTED) | BIT(SET) | MEMORY | BIT(COUNT_1) | BIT(COUNT_2),
     [TRIM] = TABLE | BIT(STARTS) | BIT(SET) | MEMORY | BIT(COUNT_1),
     [DECOMPOSE] = TABLE | BIT(CHOOSER) | BIT(LIST) | BIT(WAITING) | BIT(LABEL) | MEMORY | BIT(COUNT_1),
+    [LABEL_TABLE] = TABLE | BIT(LABEL) | MEMORY,
     [PATH] = TABLE | BIT(ROOM) | MEMORY | BIT(COUNT_1),
     [WRITE_CERTIFICATE] = TABLE | CERTIFICATE | MEMORY,
     [CHECK_CERTIFICATE] = TABLE | CERTIFICATE | BIT(VALUE_1) | BIT(COUNT_1),
@@ -114,6 +116,8 @@ static int64_t invoke(const struct library *l, const struct call *c, enum place 
         return l->decompose(
             A_TABLE, c->mask, c->method, c->order, lent(CHOOSER, p), COLUMN(LIST), lent(WAITING, p), c->given[WAITING].len,
             COLUMN(LABEL), COLUMN(NUMBERS), A_SET(WORDS), count(COUNT_1, p));
+    case LABEL_TABLE:
+        return l->label(A_TABLE, c->mask, COLUMN(LABEL), COLUMN(NUMBERS), A_SET(WORDS));
     case PATH:
         return l->path(
             A_TABLE, c->mask, c->u, c->v, COLUMN(ROOM), COLUMN(NUMBERS), A_SET(WORDS), count(COUNT_1, p));

@@ -17,7 +17,7 @@ static void (*compared_by)(const struct call *c);
 static uint32_t numbers[FUNCTIONS], checks;
 
 static const char *const function_names[FUNCTIONS] = {
-    "check_table", "search", "trim", "decompose", "path", "write_certificate", "check_certificate", "summary", "read_text", "write_labels", "label_text"};
+    "check_table", "search", "trim", "decompose", "label", "path", "write_certificate", "check_certificate", "summary", "read_text", "write_labels", "label_text"};
 static const char *const slice_names[SLICES] = {
     "sources", "targets", "kinds", "starts", "permitted", "set", "list", "waiting", "label", "rank", "in_edge", "in_distance", "out_edge", "out_distance", "room",
     "numbers", "words", "text", "out", "chooser", "first size", "second size", "first number", "second number", "third number"};

@@ -141,6 +141,73 @@ static void near(size_t n) {
     }
 }
 
+static void falling_ring(size_t n) {
+    falling_chain(n);
+    edge(0, n - 1);
+}
+
+/* A chain and back: from each vertex first forward, so that the whole chain is one path before anything closes, or first back, so that each step closes. */
+static void there_and_back(size_t n) {
+    chain(n);
+    falling_chain(n);
+}
+
+static void back_and_there(size_t n) {
+    falling_chain(n);
+    chain(n);
+}
+
+static void back_to_the_first(size_t n) {
+    chain(n);
+    for (size_t v = 0; v < n; v++) edge(v, 0);
+}
+
+/* Each ring is closed around the one before. */
+static void rings_around_rings(size_t n) {
+    chain(n);
+    for (size_t v = 0; v < n / 2; v++) edge(n - 1 - v, v);
+}
+
+/* A chain of rings, and the lowest vertex leads to each of them. */
+static void cover_sheet(size_t n) {
+    for (size_t v = 1; v < n; v++) {
+        if (v % 2 == 1) edge(0, v);
+        if (v + 1 < n) edge(v, v + 1);
+        if (v + 1 < n && v % 2 == 1) edge(v + 1, v);
+    }
+}
+
+/* The same with the highest vertex, down the numbers. */
+static void falling_cover_sheet(size_t n) {
+    for (size_t v = n - 1; v-- > 0;) {
+        if (v % 2 == 1) edge(n - 1, v);
+        if (v > 0) edge(v, v - 1);
+        if (v % 2 == 1) edge(v - 1, v);
+    }
+}
+
+static void first_ring_to_the_last(size_t n) {
+    chain_of_rings(n);
+    edge(0, n - 1);
+}
+
+/* An edge of kind 1, which does not count. */
+static void mention(size_t from, size_t to) {
+    edge(from, to);
+    table.kinds[table.m - 1] = 1;
+    table.mask = 253;
+}
+
+static void ring_by_a_mention(size_t n) {
+    chain(n);
+    mention(n - 1, 0);
+}
+
+static void rings_with_mentions(size_t n) {
+    falling_chain_of_rings(n);
+    for (size_t v = 0; v + 3 < n; v += 3) mention(v, v + 3);
+}
+
 const struct family families[] = {
     {"no edge", no_edge, false},
     {"chain", chain, false},
@@ -166,6 +233,23 @@ const struct family families[] = {
     {"near", near, true},
 };
 const size_t family_count = sizeof families / sizeof *families;
+
+const struct family deep_families[] = {
+    {"chain", chain, false},
+    {"falling chain", falling_chain, false},
+    {"ring", ring, false},
+    {"falling ring", falling_ring, false},
+    {"there and back", there_and_back, false},
+    {"back and there", back_and_there, false},
+    {"back to the first", back_to_the_first, false},
+    {"rings around rings", rings_around_rings, false},
+    {"cover sheet", cover_sheet, true},
+    {"falling cover sheet", falling_cover_sheet, true},
+    {"first ring to the last", first_ring_to_the_last, true},
+    {"ring by a mention", ring_by_a_mention, false},
+    {"rings with mentions", rings_with_mentions, true},
+};
+const size_t deep_family_count = sizeof deep_families / sizeof *deep_families;
 
 void make_table(const struct family *f, size_t n) {
     begin_table(f->name, n);

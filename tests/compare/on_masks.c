@@ -100,6 +100,7 @@ void ask_counted_alone(void) {
     ask_search();
     ask_trim();
     ask_decompose();
+    ask_label();
     ask_path();
     ask_write_certificate();
     ask_check_certificate();

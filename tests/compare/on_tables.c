@@ -80,8 +80,7 @@ void ask_trim(void) {
     trim(part);
 }
 
-/* A list of pivots: empty, all vertices falling, the highest alone, drawn, or drawn with others than vertices; gives its length. */
-static size_t draw_list(uint32_t *list) {
+size_t draw_list(uint32_t *list) {
     size_t sort = below(5), len = sort == 0 ? 0 : sort == 2 ? 1 : sort == 1 ? table.n : below(table.n + 3);
     for (size_t i = 0; i < len; i++) {
         uint32_t falling = (uint32_t)(table.n - 1 - i), any = (uint32_t)below(table.n + 1);

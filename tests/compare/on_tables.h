@@ -2,13 +2,26 @@
 #ifndef ON_TABLES_H
 #define ON_TABLES_H
 
+#include <stddef.h>
+#include <stdint.h>
+
 void ask_check_table(void);
 void ask_search(void);
 void ask_trim(void);
 void ask_decompose(void);
+void ask_label(void);
 void ask_path(void);
 void ask_write_certificate(void);
 void ask_check_certificate(void);
+
+/* A list of pivots: empty, all vertices falling, the highest alone, drawn, or drawn with others than vertices; gives its length, at most n + 2. */
+size_t draw_list(uint32_t *list);
+
+/* A call of label that may take little of the stack. */
+void ask_label_frugal(void);
+
+/* The library's label against its decompose by both methods, three pivot kinds and both orders; the plain implementation has no part in it. */
+void ask_label_as_decompose(void);
 
 /* The two ways of the definitions, against each other. */
 void ask_definitions(void);

@@ -107,6 +107,19 @@ uint32_t plain_decompose(
     return 0;
 }
 
+uint32_t plain_label(
+    size_t n, const uint32_t *sources, size_t m, const uint32_t *targets, size_t targets_len, const uint8_t *kinds, size_t kinds_len, uint8_t mask,
+    uint32_t *label, size_t label_len, uint32_t *numbers, size_t numbers_len, uint64_t *words, size_t words_len) {
+    uint32_t no = plain_check_table(n, sources, m, targets, targets_len, kinds, kinds_len);
+    if (no) return no;
+    if (label_len != n) return 5;
+    if (memory_short(n, m, numbers_len, words_len)) return 6;
+    struct graph g = {n, m, sources, targets, kinds, mask};
+    ways_for(n)->labels(&g, label);
+    zero_memory(n, m, numbers, words);
+    return 0;
+}
+
 /* Of the counted edges that enter v from a vertex one step nearer, and of v's label where labels are given, the smallest number; NO_EDGE if there is none. */
 static void nearer_edges(const struct graph *g, const uint32_t *label, const uint32_t *distance, uint32_t *edge) {
     for (size_t v = 0; v < g->n; v++) edge[v] = TINOWEALA_NO_EDGE;

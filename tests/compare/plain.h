@@ -11,6 +11,7 @@ __typeof__(tinoweala_check_table) plain_check_table;
 __typeof__(tinoweala_search) plain_search;
 __typeof__(tinoweala_trim) plain_trim;
 __typeof__(tinoweala_decompose) plain_decompose;
+__typeof__(tinoweala_label) plain_label;
 __typeof__(tinoweala_path) plain_path;
 __typeof__(tinoweala_write_certificate) plain_write_certificate;
 __typeof__(tinoweala_check_certificate) plain_check_certificate;

@@ -184,3 +184,10 @@ void largest_tables(void (*ask)(void)) {
         ask();
     }
 }
+
+void deep_tables(void (*ask)(void)) {
+    for (size_t f = 0; f < deep_family_count; f++) {
+        make_table(&deep_families[f], MOST_N);
+        ask();
+    }
+}

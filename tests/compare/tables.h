@@ -49,6 +49,10 @@ extern const struct family families[];
 extern const size_t family_count;
 void make_table(const struct family *f, size_t n);
 
+/* Those on which a search goes deep, or the decomposer is slow. */
+extern const struct family deep_families[];
+extern const size_t deep_family_count;
+
 /*
  * Asks about every table of up to 3 vertices and 4 edges, with all edges counted and with a drawn mask, and where it has at most 2 edges with every choice of
  * those that count; then about every set of edges on 3 vertices, with a drawn mask, and every set of edges without loops on 4, all counted.
@@ -64,5 +68,8 @@ void some_drawn_tables(void (*ask)(void));
 
 /* Asks about every family at 65,536 vertices, some of them filled up to 262,144 edges, with drawn kinds and mostly with all of them counted. */
 void largest_tables(void (*ask)(void));
+
+/* Asks about every deep family at 65,536 vertices. */
+void deep_tables(void (*ask)(void));
 
 #endif
