@@ -68,6 +68,7 @@ struct Lent {
     uint32_t call(Function function, Given... given) {
         return function(table.n, table.sources.data(), table.m(), table.targets.data(), table.m(), kinds.data(), kinds.size(), table.mask, given...);
     }
+    uint32_t linear() { return call(tinoweala_label, label.data(), table.n, room.numbers.data(), room.numbers.size(), words.data(), words.size()); }
     uint32_t decompose(uint32_t method, uint32_t kind) {
         tinoweala_chooser chooser = {kind, 1};
         size_t draws;
@@ -141,7 +142,9 @@ std::function<bool()> same(std::vector<Number> &column, const std::vector<Number
 
 Contenders labels(Lent &lent) {
     const auto right = same(lent.label, lent.right);
-    Contenders contenders = {{"tarjan", [&lent] { plain_tarjan(lent.table, lent.room, lent.label.data()); }, right}};
+    Contenders contenders = {
+        {"tarjan", [&lent] { plain_tarjan(lent.table, lent.room, lent.label.data()); }, right},
+        {"linear", [&lent] { lent.linear(); }, right}};
     for (uint32_t method = 0; method < 2; method++)
         for (uint32_t kind = 0; kind < 3; kind++)
             contenders.push_back({"method " + std::to_string(method) + " kind " + std::to_string(kind), [=, &lent] { lent.decompose(method, kind); }, right});

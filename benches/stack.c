@@ -45,6 +45,10 @@ static void trim(void) {
     result = tinoweala_trim(TABLE, all, set_words(), set, set_words(), MEMORY, &lengths[0]);
 }
 
+static void linear(void) {
+    result = tinoweala_label(TABLE, label, n(), MEMORY);
+}
+
 static void decompose(void) {
     result = tinoweala_decompose(TABLE, method, order, &chooser, list, MOST_N, waiting, MOST_N, label, n(), MEMORY, &lengths[0]);
 }
@@ -84,9 +88,10 @@ static struct function {
     void (*call)(void);
     size_t bytes, calls, refused;
 } functions[] = {
-    {"check_table", check_table, 0, 0, 0}, {"search", search, 0, 0, 0}, {"trim", trim, 0, 0, 0}, {"decompose", decompose, 0, 0, 0},
-    {"path", path, 0, 0, 0}, {"write_certificate", write_certificate, 0, 0, 0}, {"check_certificate", check_certificate, 0, 0, 0},
-    {"summary", summary, 0, 0, 0}, {"read_text", read_text, 0, 0, 0}, {"write_labels", write_labels, 0, 0, 0}, {"label_text", label_text, 0, 0, 0}};
+    {"check_table", check_table, 0, 0, 0}, {"search", search, 0, 0, 0}, {"trim", trim, 0, 0, 0}, {"label", linear, 0, 0, 0},
+    {"decompose", decompose, 0, 0, 0}, {"path", path, 0, 0, 0}, {"write_certificate", write_certificate, 0, 0, 0},
+    {"check_certificate", check_certificate, 0, 0, 0}, {"summary", summary, 0, 0, 0}, {"read_text", read_text, 0, 0, 0},
+    {"write_labels", write_labels, 0, 0, 0}, {"label_text", label_text, 0, 0, 0}};
 
 /* The bytes below this function's own that a call has written. */
 static __attribute__((noinline)) size_t used(void (*call)(void)) {
@@ -109,7 +114,7 @@ static void measure(void (*call)(void)) {
 
 /* Every function on the current table; each choice of the decomposer that is not slow on it. */
 static void measure_all(void) {
-    static void (*const rest[])(void) = {check_table, trim, path, write_certificate, check_certificate, summary, write_labels};
+    static void (*const rest[])(void) = {check_table, trim, linear, path, write_certificate, check_certificate, summary, write_labels};
     for (size_t v = 0; v < n(); v++) list[v] = (uint32_t)(n() - 1 - v);
     for (uint32_t x = 0; x < 12; x++) {
         method = x % 2, order = x / 2 % 2, kind = x / 4;
