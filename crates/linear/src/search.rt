@@ -5,7 +5,7 @@ use moves::Stand;
 use moves::segments;
 use moves::stores;
 
-// One step at the path's last u, whose edges from c up to h are not looked at: a vertex is entered, or u is left.
+// One step at the path's last u, whose edges from c up to h are not looked at: a vertex is entered, or the search goes back from u.
 fn step(
     n: usize,
     b: usize,

@@ -48,7 +48,7 @@ pub fn enter(
     }
 }
 
-// The path's last of p is left: the one before it goes on, if there is one.
+// The search goes back from the path's last of p: the one before it goes on, if there is one.
 pub fn back(n: usize, b: usize, w: &[u32], s: usize, k: usize, p: usize, steps: usize) -> Stand
     requires { ⌜ BackAsk n b p (now w) ⌝ }
     ensures { λ r. ⌜ Backed n b s k p steps (now (w .entry)) r ⌝ }
