@@ -1,0 +1,22 @@
+use mathlib.Core.Path.{◌≡◌, refl}
+use Prim.Native.Nat.{◌-◌}
+use native.Mathlib.Omega.{arith}
+use Rattle.memory.proofs.Memory.{put_none, put_step}
+use Rattle.memory.proofs.fill.Goals as goal
+
+pub loop-i-init : goal.loop-i-init
+loop-i-init c = (omega arith, refl, put_none _ _ _)
+
+pub loop-i-preserved : goal.loop-i-preserved
+loop-i-preserved c =
+    let l = c.loop-i in
+    let p = put_step c.args.x refl (omega arith) l.invariant.2 in (omega arith, p.framed.long, p)
+
+pub shape_of-w : goal.shape_of-w
+shape_of-w c = c.loop-i.invariant.1
+
+pub returns : goal.returns
+returns c =
+    let l = c.loop-i in
+    let e : l.i ≡ c.args.n = omega arith in
+    rw e at l.invariant.2
