@@ -71,9 +71,9 @@ split_from stop s at h = ap (split stop) (drop-cons s at 0 h) ∙ split_first st
     back = rw (← drop-cons s at 0 h) (rw (drop-drop (suc (run stop (drop at s))) at s))
 
 -- past the end of the text nothing is left, whether or not one is added
-past_end : (s : List ℕ) (e : ℕ) (t : Bool) → ltb e (length s) ≡ t → e ≤ length s → drop (suc e) s ≡ drop (cond t (e + 1) e) s
-past_end s e true p h = rw (add-one e)
-past_end s e false p h =
+past_end_drop : (s : List ℕ) (e : ℕ) (t : Bool) → ltb e (length s) ≡ t → e ≤ length s → drop (suc e) s ≡ drop (cond t (e + 1) e) s
+past_end_drop s e true p h = rw (add-one e)
+past_end_drop s e false p h =
     let l : length s ≤ e = ltb-false _ _ p in
     let m : length s ≤ suc e = omega arith in
     drop_of_length-le s m ∙ sym (drop_of_length-le s l)
@@ -97,7 +97,7 @@ piece_bounds stop s at h =
       ends = l;
       onward = past_over at e (length s) (ltb e (length s)) refl (omega arith) h;
       within = past_in e (length s) (ltb e (length s)) refl l;
-      pieces = split_from stop s at h ∙ rw (add-sub_cancel_left at (run stop (drop at s)), add-suc at (run stop (drop at s)), past_end s e (ltb e (length s)) refl l);
+      pieces = split_from stop s at h ∙ rw (add-sub_cancel_left at (run stop (drop at s)), add-suc at (run stop (drop at s)), past_end_drop s e (ltb e (length s)) refl l);
     }
 
 known' : (t : Bool) (stop : ℕ) (s : List ℕ) (at a e n : ℕ) → ltb at (length s) ≡ t → cond t (At at (piece_end stop s at) (past_end s (piece_end stop s at))) None ≡ At a e n → Known stop s at a e n
