@@ -1,4 +1,4 @@
-use Rattle.std.proofs.lemmas.Bool.{not-false}
+use Rattle.std.proofs.lemmas.Bool.{not_from_true}
 use Rattle.checker.proofs.Laws.{rank_ask, fault_one, fault_two, fault_three, fault_four, fault_none}
 use Rattle.checker.proofs.checks.fault.Goals as goal
 
@@ -6,7 +6,7 @@ pub returns-then-not-labelled : goal.returns-then-not-labelled
 returns-then-not-labelled c = search fault_one
 
 pub ranked-requires : goal.ranked-requires
-ranked-requires c = rank_ask c.requires c.labelled.ensures (not-false _ c.if-not-labelled.false)
+ranked-requires c = rank_ask c.requires c.labelled.ensures (not_from_true _ c.if-not-labelled.false)
 
 pub returns-then-not-ranked : goal.returns-then-not-ranked
 returns-then-not-ranked c = search fault_two
