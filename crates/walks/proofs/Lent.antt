@@ -1,6 +1,7 @@
 -- A `&κ mut [T]` or a `&κ mut T` that is lent again for a call, and comes back, each as one step of a walk.
 --     lend, lend_ref     [what x owns at κ; [κ]_q; Γ]   from   [what x owns at ν, under the name δ; [ν]; what waits; Γ]   for new ν and δ
 --     back, back_ref     [its last value under δ; [ν]; what waits; Γ]   to   [what x owns at κ, at its last value; [κ]_q; Γ]
+-- What a callee leaves of a `&mut` that its contract keeps is the last value and the borrow, closed, as one entry: `fsplit`, and drop the borrow, before `back`, `back_ref`, and `Own.antt`'s `back_own` and `back_array`.
 use mathlib.Core.Path.{◌≡◌, refl, sym, subst}
 use Prim.Native.Nat.{ℕ}
 use mathlib.Core.List.{List, [], ◌∷◌}
