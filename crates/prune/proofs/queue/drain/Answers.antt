@@ -19,7 +19,7 @@ beside-k-requires c =
 pub loop-h-preserved : goal.loop-h-preserved
 loop-h-preserved c =
     let l = c.loop-h in
-    let (_, (g, (a, z, t)), f) = l.inv in
+    let (_, (g, (a, z, t)), f) = l.invariant in
     let h = c.loop-h-test.true in
     let call = c.beside-k.ensures in
     let y = call g (drain_beside l.h z.state t h) in (
