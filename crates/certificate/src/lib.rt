@@ -1,4 +1,6 @@
 // The certificate writer: it reads the labels and fills the other five columns.
+#![tactic(auto)]
+
 ghost use Rattle.std.specs.Prelude.{◌≡◌, ℕ, ◌+◌, ◌*◌};
 ghost use Rattle.certificate.specs.Work.{HandAsk, Handed};
 ghost use Rattle.certificate.specs.Promise.{lent, call, early_refusal, Promise};

@@ -1,4 +1,6 @@
 // Classes of labels: each is searched from its label, inside the class.
+#![tactic(auto)]
+
 ghost use Rattle.std.specs.Prelude.{◌≡◌, ◌+◌, ◌≤◌, ◌<◌, length};
 ghost use Rattle.graph.specs.Arrows.{Some, Every};
 ghost use Rattle.classes.specs.Search.{Owned, ColourAsk, Coloured, ClassAsk, Classed, AllFound, DistancesAsk, Measured};

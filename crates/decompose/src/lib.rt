@@ -1,4 +1,6 @@
 // The decomposer: the collection is taken apart into its components, and each vertex gets its label.
+#![tactic(auto)]
+
 ghost use Rattle.decompose.specs.Promise.{call, after, Promise};
 
 use finish::Answer;

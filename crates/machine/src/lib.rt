@@ -1,4 +1,6 @@
 // The machine of the decomposer: covered code that decides what the next turn does with the list of waiting parts.
+#![tactic(auto)]
+
 ghost use Rattle.std.specs.Prelude.{◌≡◌};
 ghost use Rattle.machine.specs.Aim.{AimAsk, wrapped, aim as aim_of, goes as goesOf, aimed as aimedAt};
 

@@ -8,7 +8,6 @@ use mathlib.Core.List.{List}
 use lib.Dec.{T, ltb, ltb→lt, lt→ltb, eqb}
 use Rattle.graph.specs.Graph.{Graph}
 use Rattle.graph.specs.Parts.{Alone, Closed}
-use Rattle.graph.specs.Numbers.{many}
 use Rattle.graph.specs.Pivot.{list_of}
 use Rattle.graph.specs.Apart.{In, Divides}
 use Rattle.graph.proofs.Chains.{valid_rev, same_low}

@@ -10,7 +10,6 @@ use lib.Dec.{T, eqb, eqb→eq}
 use borrow.Author.Tests.{eq-eqb, ne_eqb, eqb-true}
 use Rattle.graph.specs.Graph.{Graph, Valid, edges, from}
 use Rattle.graph.specs.Numbers.{many}
-use Rattle.graph.specs.Checker.{at}
 use Rattle.graph.proofs.Tests.{or_left, or_split}
 use Rattle.graph.proofs.Counts.{many_le}
 use Rattle.graph.proofs.Ranges.{many_ext}

@@ -1,4 +1,6 @@
 // Ranks by peeling: a vertex goes when no edge that it waits for is left.
+#![tactic(auto)]
+
 ghost use Rattle.graph.specs.Graph.{table};
 ghost use Rattle.memory.specs.Memory.{region};
 ghost use Rattle.memory.specs.Writer.{in_edges};

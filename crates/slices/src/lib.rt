@@ -1,4 +1,6 @@
 // One pivot of method 1 (OBF): what it reaches is cut into slices, each a union of whole components.
+#![tactic(auto)]
+
 ghost use Rattle.slices.specs.Prepare.{PrepareAsk, Prepared};
 
 use memory::decomposer::{ENTERING, MARKS};

@@ -1,6 +1,5 @@
 -- The chains of parts run over places of the order of the vertices; beside them stand the last place of each part and the pending parts.
 use Rattle.std.specs.Prelude.{ℕ, ◌≤◌, ◌<◌, ◌≡◌}
-use Rattle.memory.specs.Decomposer.{own}
 pub use Rattle.prune.specs.Chain.{Follows}
 
 -- h is the first place of its colour, which is no label

@@ -1,4 +1,6 @@
 // One pivot: what it reaches and what reaches it within its part; what they share is a component and gets its label.
+#![tactic(auto)]
+
 ghost use Rattle.std.specs.Prelude.{◌<◌, length};
 ghost use Rattle.graph.specs.Arrows.{SomeOf, EveryOf};
 ghost use Rattle.split.specs.Split.{Lower, Lowest, Renamed, Queued, NameAsk, Named, LabelAsk, Labelled, PivotAsk, Split};

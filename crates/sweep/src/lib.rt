@@ -1,4 +1,6 @@
 // A part is swept by pivots of a kind, of either method.
+#![tactic(auto)]
+
 ghost use Rattle.graph.specs.Arrows.{SomeOf, EveryOf};
 ghost use Rattle.sweep.specs.Kind.{KindAsk, KindSwept};
 

@@ -1,4 +1,6 @@
 // The list of waiting parts: records lent by the caller as a slice.
+#![tactic(auto)]
+
 ghost use Rattle.std.specs.Prelude.{◌≡◌, ◌<◌, length, set, get_or};
 ghost use Rattle.waiting.specs.Records.{none};
 

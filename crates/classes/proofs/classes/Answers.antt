@@ -1,5 +1,4 @@
 use mathlib.Core.Path.{◌≡◌}
-use Prim.Native.Nat.{◌-◌}
 use native.Mathlib.Omega.{arith}
 use Rattle.memory.proofs.Memory.{framed_more, framed_none}
 use Rattle.classes.proofs.Classing.{class_ask}

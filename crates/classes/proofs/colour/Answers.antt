@@ -1,7 +1,5 @@
 use mathlib.Core.Path.{◌≡◌}
-use Prim.Native.Nat.{◌-◌}
 use native.Mathlib.Omega.{arith}
-use Rattle.graph.specs.Checker.{at}
 use Rattle.classes.proofs.Classing.{colour_none, colour_fits, colour_step}
 use Rattle.classes.proofs.colour.Goals as goal
 

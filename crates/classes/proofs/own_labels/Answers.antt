@@ -1,6 +1,5 @@
 use mathlib.Core.Path.{refl}
 use mathlib.Core.Logic.{inl, inr}
-use Prim.Native.Nat.{◌-◌}
 use native.Mathlib.Omega.{arith}
 use Rattle.classes.proofs.Classing.{own_no, own_yes}
 use Rattle.classes.proofs.own_labels.Goals as goal

@@ -1,4 +1,3 @@
-use Prim.Native.Nat.{◌-◌}
 use native.Mathlib.Omega.{arith}
 use Rattle.labels.proofs.Bytes.{count_step, count_end}
 use Rattle.labels.proofs.lines_length.Goals as goal

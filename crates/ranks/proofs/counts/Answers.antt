@@ -1,4 +1,3 @@
-use Prim.Native.Nat.{◌-◌}
 use lib.ListN.{get_or, length-set}
 use Rattle.graph.specs.Graph.{in_mask}
 use Rattle.graph.proofs.Masks.{digit_low, kind_of}

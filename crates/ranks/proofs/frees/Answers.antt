@@ -1,5 +1,4 @@
 use mathlib.Core.Path.{◌≡◌}
-use Prim.Native.Nat.{◌-◌}
 use Rattle.ranks.proofs.Freeing.{frees_none, free_ask, frees_step}
 use native.Mathlib.Omega.{arith}
 use Rattle.ranks.proofs.frees.Goals as goal

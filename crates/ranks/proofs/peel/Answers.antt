@@ -1,4 +1,4 @@
-use Prim.Native.Nat.{◌-◌, ◌+◌}
+use Prim.Native.Nat.{◌+◌}
 use Rattle.memory.specs.Writer.{queue_at}
 use Rattle.ranks.proofs.Taking.{take_none, queue_few, take_ask, take_step, take_end}
 use Rattle.ranks.proofs.Settling.{ranking_none}

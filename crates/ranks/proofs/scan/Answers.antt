@@ -1,5 +1,5 @@
 use mathlib.Core.Path.{◌≡◌, refl}
-use Prim.Native.Nat.{◌-◌, ◌+◌}
+use Prim.Native.Nat.{◌+◌}
 use lib.ListN.{get_or}
 use Rattle.ranks.proofs.Scanning.{scan_none, scan_ask, scan_step}
 use native.Mathlib.Omega.{arith}

@@ -1,6 +1,5 @@
 use native.Mathlib.Omega.{arith}
 use mathlib.Core.Path.{◌≡◌}
-use Prim.Native.Nat.{◌-◌}
 use lib.ListN.{length-set}
 use Rattle.slices.proofs.Preparing.{prepare_none, prepare_step}
 use Rattle.slices.proofs.prepare.Goals as goal

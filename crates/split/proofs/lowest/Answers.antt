@@ -1,6 +1,6 @@
 use native.Mathlib.Omega.{arith}
 use mathlib.Core.Path.{◌≡◌}
-use Prim.Native.Nat.{◌<◌, ◌-◌}
+use Prim.Native.Nat.{◌<◌}
 use Rattle.memory.specs.Decomposer.{que}
 use Rattle.split.proofs.Naming.{lowest_none, lowest_step}
 use Rattle.split.proofs.lowest.Goals as goal

@@ -1,6 +1,6 @@
 use native.Mathlib.Omega.{arith}
 use mathlib.Core.Path.{◌≡◌}
-use Prim.Native.Nat.{◌<◌, ◌-◌}
+use Prim.Native.Nat.{◌<◌}
 use Rattle.memory.specs.Decomposer.{que}
 use Rattle.split.proofs.Naming.{named_none, que_lt, named_step}
 use Rattle.split.proofs.name.Goals as goal

@@ -1,4 +1,4 @@
-use Rattle.std.proofs.lemmas.Bool.{not_from_false, not_from_true}
+use Rattle.std.proofs.lemmas.Bool.{not_from_true}
 use Rattle.certificate.proofs.Working.{both_ask, there_ask, find_stop, back_ask, find_end}
 use Rattle.certificate.proofs.work.find.Goals as goal
 

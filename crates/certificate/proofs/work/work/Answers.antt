@@ -1,4 +1,4 @@
-use Rattle.std.proofs.lemmas.Bool.{not_from_false, not_from_true}
+use Rattle.std.proofs.lemmas.Bool.{not_from_true}
 use Rattle.certificate.proofs.Working.{work_none, find_ask, work_stop, complete_ask, work_end}
 use Rattle.certificate.proofs.work.work.Goals as goal
 

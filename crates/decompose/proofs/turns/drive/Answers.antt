@@ -1,11 +1,11 @@
-use Rattle.std.proofs.Common.{◌≡◌, ℕ, ◌<◌, List, get_or, set, length, sym, ap, subst, ◌∙◌, arith}
+use Rattle.std.proofs.Common.{◌≡◌, ℕ, ◌<◌, List, get_or, set, sym, ap, subst, ◌∙◌, arith}
 use Rattle.graph.specs.Arrows.{Arrows, on, sized, EveryOf}
 use Rattle.waiting.specs.declared.Part.{Part}
 use Rattle.waiting.specs.Records.{none}
 use Rattle.machine.specs.declared.Machine.{Machine}
 use Rattle.machine.specs.Machine.{StepAsk, Stepped}
 use Rattle.decompose.specs.Turns.{DriveAsk, Ran}
-use Rattle.decompose.proofs.Driving.{togo, driving_begin, driving_read, driving_ask, driving_turn, driving_less}
+use Rattle.decompose.proofs.Driving.{driving_begin, driving_read, driving_ask, driving_turn, driving_less}
 use Rattle.decompose.proofs.turns.drive.Goals as goal
 
 -- a turn, where the machine has run so far: p is the record read, and ys₁ the list after that

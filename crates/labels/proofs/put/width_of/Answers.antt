@@ -1,4 +1,3 @@
-use Prim.Native.Nat.{◌-◌}
 use Rattle.labels.proofs.Decimal.{grow_none, grow_step, grow_end}
 use Rattle.labels.proofs.put.width_of.Goals as goal
 

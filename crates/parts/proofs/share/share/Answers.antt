@@ -1,6 +1,6 @@
 use native.Mathlib.Omega.{arith}
 use mathlib.Core.Path.{◌≡◌, refl}
-use Prim.Native.Nat.{◌+◌, ◌*◌, ◌-◌}
+use Prim.Native.Nat.{◌+◌, ◌*◌}
 use Rattle.parts.proofs.Sharing.{share_start, next_of, hang_ask, share_step, share_here}
 use Rattle.parts.proofs.share.share.Goals as goal
 

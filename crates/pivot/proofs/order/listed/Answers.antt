@@ -1,4 +1,4 @@
-use Rattle.std.proofs.Common.{◌-◌, arith, rules}
+use Rattle.std.proofs.Common.{arith, rules}
 use Rattle.pivot.proofs.Places.{filling_free, listed_begin, listed_step, listed_all}
 use borrow.Author.Rules.{rules}
 use Rattle.pivot.proofs.order.listed.Goals as goal

@@ -1,4 +1,4 @@
-use Rattle.std.proofs.Common.{◌-◌, arith, rules}
+use Rattle.std.proofs.Common.{arith, rules}
 use Rattle.pivot.proofs.Places.{filling_free, rising_begin, rising_step, rising_all}
 use borrow.Author.Rules.{rules}
 use Rattle.pivot.proofs.order.others.Goals as goal

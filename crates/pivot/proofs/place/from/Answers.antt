@@ -1,4 +1,4 @@
-use Rattle.std.proofs.Common.{◌-◌, refl, arith, leb-false, leb-true}
+use Rattle.std.proofs.Common.{refl, arith, leb-false, leb-true}
 use Rattle.pivot.proofs.Members.{from_next, from_found}
 use Rattle.pivot.proofs.place.from.Goals as goal
 

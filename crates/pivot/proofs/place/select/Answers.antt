@@ -1,4 +1,4 @@
-use Rattle.std.proofs.Common.{◌-◌, arith, leb-true}
+use Rattle.std.proofs.Common.{arith, leb-true}
 use lib.Count.{ones-le}
 use Rattle.graph.specs.Numbers.{tally}
 use Rattle.pivot.proofs.Members.{from_begin, from_word, bit_member}

@@ -1,5 +1,5 @@
 use native.Mathlib.Omega.{arith}
-use Prim.Native.Nat.{◌≤◌, ◌-◌, ◌+◌}
+use Prim.Native.Nat.{◌≤◌, ◌+◌}
 use mathlib.Core.Path.{refl}
 use Rattle.slices.proofs.Draining.{drain_none, drain_few, drain_ask, drain_step, drain_all}
 use borrow.Author.Rules.{rules}

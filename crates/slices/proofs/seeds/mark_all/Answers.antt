@@ -1,6 +1,6 @@
 use native.Mathlib.Omega.{arith}
 use mathlib.Core.Path.{◌≡◌, refl}
-use Prim.Native.Nat.{◌-◌, ◌+◌}
+use Prim.Native.Nat.{◌+◌}
 use Rattle.slices.proofs.Walking.{all_none, all_ask, all_step}
 use borrow.Author.Rules.{rules}
 use Rattle.slices.proofs.seeds.mark_all.Goals as goal

@@ -1,5 +1,5 @@
 use native.Mathlib.Omega.{arith}
-use Prim.Native.Nat.{◌-◌, ◌+◌}
+use Prim.Native.Nat.{◌+◌}
 use mathlib.Core.Path.{refl}
 use Rattle.graph.specs.Arrows.{on}
 use Rattle.slices.proofs.Walking.{Turn, next_none, next_turn, next_ask, next_step, next_all}

@@ -1,5 +1,5 @@
 use native.Mathlib.Omega.{arith}
-use Prim.Native.Nat.{◌<◌, ◌-◌}
+use Prim.Native.Nat.{◌<◌}
 use Rattle.slices.proofs.Slicing.{cuts_none, cuts_pass, cuts_few, cuts_cut, cuts_step, cuts_all}
 use Rattle.slices.proofs.slice.cuts.Goals as goal
 
@@ -12,7 +12,7 @@ peel-c-requires c = (c.requires.0, cuts_pass c.requires.1 (c.loop-l.invariant c.
 pub overflow_cast-s : goal.overflow_cast-s
 overflow_cast-s c =
     let room : c.loop-l.s < c.args.r = let z = c.loop-l.invariant c.requires.0 c.requires.1 in
-        omega (arith, cuts_few c.requires.1 z c.loop-l-test.true, z.most, c.requires.1.under, c.loop-l-test.true) in
+    omega (arith, cuts_few c.requires.1 z c.loop-l-test.true, z.most, c.requires.1.under, c.loop-l-test.true) in
     omega (arith, room, c.requires.1.listing.standing.fits)
 
 pub cut-e-requires : goal.cut-e-requires
@@ -24,7 +24,7 @@ cut-e-requires c =
 pub overflow_add-s : goal.overflow_add-s
 overflow_add-s c =
     let room : c.loop-l.s < c.args.r = let z = c.loop-l.invariant c.requires.0 c.requires.1 in
-        omega (arith, cuts_few c.requires.1 z c.loop-l-test.true, z.most, c.requires.1.under, c.loop-l-test.true) in
+    omega (arith, cuts_few c.requires.1 z c.loop-l-test.true, z.most, c.requires.1.under, c.loop-l-test.true) in
     omega (arith, room, c.requires.1.listing.standing.fits)
 
 pub loop-l-smaller : goal.loop-l-smaller

@@ -1,6 +1,6 @@
 use native.Mathlib.Omega.{arith}
 use mathlib.Core.Path.{◌≡◌, refl}
-use Prim.Native.Nat.{◌-◌, ◌+◌, ◌*◌}
+use Prim.Native.Nat.{◌+◌, ◌*◌}
 use Rattle.slices.proofs.Cutting.{sow_none, sow_visit, sow_step}
 use borrow.Author.Rules.{rules}
 use Rattle.slices.proofs.slice.sow.Goals as goal

@@ -1,5 +1,5 @@
 use native.Mathlib.Omega.{arith}
-use Prim.Native.Nat.{◌+◌, ◌*◌, ◌-◌}
+use Prim.Native.Nat.{◌+◌, ◌*◌}
 use mathlib.Core.Path.{refl}
 use Rattle.sweep.proofs.Sweeping.{sweep_none, next_is, sweep_turn, sweep_step, sweep_all}
 use borrow.Author.Rules.{rules}

@@ -1,6 +1,6 @@
 use native.Mathlib.Omega.{arith}
 use mathlib.Core.Path.{◌≡◌}
-use Prim.Native.Nat.{◌+◌, ◌-◌}
+use Prim.Native.Nat.{◌+◌}
 use Rattle.sweep.proofs.Marking.{erase_none, strike_ask, erase_step}
 use Rattle.sweep.proofs.set.erase.Goals as goal
 
