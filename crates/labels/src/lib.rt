@@ -9,7 +9,7 @@ pub mod put;
 
 use graph::limits;
 
-#[derive(Drop)]
+#[derive(Clone, Copy)]
 pub enum Answer {
     Done { bytes: usize },
     Refused(u32),

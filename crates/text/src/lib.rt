@@ -10,7 +10,7 @@ mod header;
 use crate::header::Head;
 use graph::limits;
 
-#[derive(Drop)]
+#[derive(Clone, Copy)]
 pub enum Answer {
     Done { n: usize, edges: usize },
     Refused(u32),
