@@ -34,13 +34,13 @@ module _ {g : Graph} (ok : Valid g) (lab : List ℕ) (right : Right g lab) where
         let s : Same g v x = record { there = reach_join (right v l).member.there there; back = back } in
         sym ((right_tells v x l (same_low ok s l)).1 s)
 
-    inside : {h x : ℕ} → Reach g all (at lab v) x → Chain g all h x v → Chain g (class lab (at lab v)) h x v
-    inside {x = x} r (stay p) = stay (between v r (0, stay tt))
-    inside {x = x} r (step {h = h} {v = w} e p y c) =
-        step e (between x r (suc h, step e p y c)) y (inside (reach_join r (reach_edge e tt tt y)) c)
+    inside : {h x : ℕ} → Chain g all h x v → Reach g all (at lab v) x → Chain g (class lab (at lab v)) h x v
+    inside {x = x} (stay p) r = stay (between v r (0, stay tt))
+    inside {x = x} (step {h = h} {v = w} e p y c) r =
+        step e (between x r (suc h, step e p y c)) y (inside c (reach_join r (reach_edge e tt tt y)))
 
     pub stays_inside : (h : ℕ) → Chain g all h (at lab v) v → Chain g (class lab (at lab v)) h (at lab v) v
-    stays_inside h c = inside (0, stay tt) c
+    stays_inside h c = inside c (0, stay tt)
 
     -- so every vertex is reached inside its class
     pub reached_inside : (h : ℕ) × Chain g (class lab (at lab v)) h (at lab v) v

@@ -6,7 +6,7 @@ use mathlib.Core.Path.{◌≡◌, refl, subst, sym, ap}
 use Prim.Native.Nat.{ℕ}
 use mathlib.Core.List.{List, [], ◌∷◌, ◌++◌}
 use seplogic.Ra.Ura.{Ura}
-use mir.Syntax.{Name, Place, Opd as Operand, Body, seq, call, Fn}
+use mir.Syntax.{Callee, Place, Opd as Operand, Body, seq, call, Fn}
 use mir.Val.{Val}
 use base.Logic.{SProp, ent, sep, emp, id⊢, via, mono∗, mono_l, mono_r, comm∗, assoc∗, fst∗, emp∗}
 use base.Fml.{Fml, fsep}
@@ -35,7 +35,7 @@ use Rattle.walks.proofs.Moves.{star, each_of, items, items_out, Sources, heads, 
 -- what is said at exit of each parameter that has a last value
 abbrev pub last : {D : Type 0} (e : Exit D) (x : D) → Last e x → List Fml → List Fml
 last unchanged x w Ps = Ps
-last (leaves L l S s) x w Ps = l x w ∷ Ps
+last (leaves L l S s r₀) x w Ps = l x w ∷ Ps
 
 abbrev pub lastly : {n : ℕ} (κs : Lfts n) (ss : List (Slot n)) (ks : Kepts ss) (a : Denots (types_at ss κs)) → Fins κs ss ks a → List Fml
 lastly κs [] ks a ws = []
@@ -50,7 +50,7 @@ module _ {M : Type 1} {𝓤 : Ura M} (𝓛 : Logic 𝓤) where
   last_out : {D : Type 0} (e : Exit D) (x : D) (w : Last e x) (Ps : List Fml) (Q : SProp 𝓤) → ent 𝓤 Q (⋆ 𝓛 (items 𝓛 Ps)) → ent 𝓤 (sep 𝓤 (sem 𝓛 (left e x w)) Q)
       (⋆ 𝓛 (items 𝓛 (last e x w Ps)))
   last_out unchanged x w Ps Q h = via 𝓤 Q (via 𝓤 (sep 𝓤 Q (emp 𝓤)) (comm∗ 𝓤 (emp 𝓤) Q) (fst∗ 𝓤 Q (emp 𝓤))) h
-  last_out (leaves L l S s) x w Ps Q h = via 𝓤 (sep 𝓤 (sem 𝓛 (l x w)) (⋆ 𝓛 (items 𝓛 Ps))) (mono_r 𝓤 (sem 𝓛 (l x w)) h) (push 𝓛 (‵ (l x w)) (items 𝓛 Ps))
+  last_out (leaves L l S s r₀) x w Ps Q h = via 𝓤 (sep 𝓤 (sem 𝓛 (l x w)) (⋆ 𝓛 (items 𝓛 Ps))) (mono_r 𝓤 (sem 𝓛 (l x w)) h) (push 𝓛 (‵ (l x w)) (items 𝓛 Ps))
 
   lastly_out : {n : ℕ} (κs : Lfts n) (ss : List (Slot n)) (ks : Kepts ss) (a : Denots (types_at ss κs)) (ws : Fins κs ss ks a)
       → ent 𝓤 (sem 𝓛 (lasts_of κs ss ks a ws)) (⋆ 𝓛 (items 𝓛 (lastly κs ss ks a ws)))
@@ -60,7 +60,7 @@ module _ {M : Type 1} {𝓤 : Ura M} (𝓛 : Logic 𝓤) where
 
   owns_star : (Rs : List RattleType) (a : Denots Rs) (vss : Valss Rs) → star (each_of Rs a vss) ≡ owns Rs a vss
   owns_star [] a vss = refl
-  owns_star (R ∷ Rs) a vss = ap (fsep (R.own a.0 vss.0)) (owns_star Rs a.1 vss.1)
+  owns_star (R ∷ Rs) a vss = ap (fsep (R.own_val a.0 vss.0)) (owns_star Rs a.1 vss.1)
 
   had_star : {n : ℕ} (κs : Lfts n) (ss : List (Slot n)) (ks : Kepts ss) (hs : Stays ss ks) (a : Denots (types_at ss κs)) (ws : Fins κs ss ks a) (vss : Valss (types_at ss κs))
       → star (had κs ss ks hs a ws vss) ≡ has_of κs ss ks hs a ws vss
@@ -141,7 +141,7 @@ module _ {M : Type 1} {𝓤 : Ura M} {K : Type 0} (𝓛 : Logic 𝓤) {Γ : List
       ((raw (Ensured 𝓛 T c y r ws) ∷ (left_at 𝓛 T c y ws ++ alives 𝓛 T c y)) ++ Γ) (G (val r)))
       → (w : Val) → Seq K 𝓛 (raw ((Agreed 𝓛 T c).post y w) ∷ Γ) (G w)
   received t y val tells G soaks k w =
-      use1 𝓛 (later (some (λ (r : (Result 𝓛 T c y).Denot). (raw (alive 𝓛 T.signature y.0.0 y.0.1) ⊛ ‵ ((Result 𝓛 T c y).own r (w ∷ []))) ⊛ raw
+      use1 𝓛 (later (some (λ (r : (Result 𝓛 T c y).Denot). (raw (alive 𝓛 T.signature y.0.0 y.0.1) ⊛ ‵ ((Result 𝓛 T c y).own_val r (w ∷ []))) ⊛ raw
       (ensured 𝓛 T c y.0.0 y.0.3 y.1 r)))) (id⊢ 𝓤 _) $ await t (soaks w) $ pick t (λ r. split t $ split t $
       move t (1 ∷ []) $ facts t (Result 𝓛 T c y) (Is (Result 𝓛 T c y)) (shows 𝓛 (Result 𝓛 T c y)) r (w ∷ []) (λ is.
       move t (1 ∷ []) $ use1 𝓛 (some (λ (ws : Lasts T y.0.0 y.0.3). ‵ (lasts T y.0.0 y.0.3 ws) ⊛ raw (Ensured 𝓛 T c y r ws))) (id⊢ 𝓤 _) $ pick t (λ ws. split t $
@@ -151,7 +151,7 @@ module _ {M : Type 1} {𝓤 : Ura M} {K : Type 0} (𝓛 : Logic 𝓤) {Γ : List
       subst (λ (u : Val). Is (Result 𝓛 T c y) r (u ∷ []) → Seq K 𝓛 ((raw (Ensured 𝓛 T c y r ws) ∷ (left_at 𝓛 T c y ws ++ alives 𝓛 T c y)) ++ Γ) (G u))
       (sym (ap only (tells r (w ∷ []) is))) (k r ws) is)))
 
-  module _ {E : Env 𝓤 H} {C : Calls 𝓤 H} {Λ : Loops 𝓤 H} {q : Post 𝓤 H} {d : Place} {f : Name} {xs : List Operand} where
+  module _ {E : Env 𝓤 H} {C : Calls 𝓤 H} {Λ : Loops 𝓤 H} {q : Post 𝓤 H} {d : Place} {f : Callee} {xs : List Operand} where
     pub asks : {rest : Body} → FmC 𝓤 H 𝓛.laws C → Triple 𝓤 (C f) (Agreed 𝓛 T c) → (y : (Agreed 𝓛 T c).Ghost) (ss : Sources 𝓛 (brought 𝓛 T c y)) → ent 𝓤 (emp 𝓤) (Required 𝓛 T c y)
         → (val : (Result 𝓛 T c y).Denot → Val) → Tells (Result 𝓛 T c y) (Is (Result 𝓛 T c y)) (λ r. val r ∷ []) → K → Opds K 𝓛 (raw ((Agreed 𝓛 T c).pre y) ∷ Γ) E xs
         ((Agreed 𝓛 T c).args y)
@@ -166,13 +166,13 @@ module _ {M : Type 1} {𝓤 : Ura M} {K : Type 0} (𝓛 : Logic 𝓤) {Γ : List
 pub ends : {M : Type 1} {𝓤 : Ura M} {K : Type 0} (𝓛 : Logic 𝓤) (T : Ended) (c : Clauses 𝓤 T) (hs : Stays T.signature.params T.kept)
     (y : (walk_of 𝓛 T hs c).Ghost) (v : Val) (r : (Result 𝓛 T c y).Denot) (ws : Lasts T y.0.0 y.0.3) → Fit T hs y.0.0 y.0.3 ws
     → ent 𝓤 (emp 𝓤) (Ensured 𝓛 T c y r ws) → (ss : Sources 𝓛 (had y.0.0 T.signature.params T.kept hs y.0.3 ws y.0.4)) → ent 𝓤 (emp 𝓤)
-    (sem 𝓛 ((Result 𝓛 T c y).own r (v ∷ [])))
+    (sem 𝓛 ((Result 𝓛 T c y).own_val r (v ∷ [])))
     → Seq K 𝓛 (heads 𝓛 (had y.0.0 T.signature.params T.kept hs y.0.3 ws y.0.4) ss ++ alives 𝓛 T c y) (prop ((walk_of 𝓛 T hs c).post y v))
 ends {𝓤 = 𝓤} 𝓛 T c hs y v r ws fits said ss own =
     let Ps : List Fml = had y.0.0 T.signature.params T.kept hs y.0.3 ws y.0.4 in
     let L : SProp 𝓤 = alive 𝓛 T.signature y.0.0 y.0.1 in
     let B : SProp 𝓤 = sem 𝓛 (has_of y.0.0 T.signature.params T.kept hs y.0.3 ws y.0.4) in
-    let O : SProp 𝓤 = sem 𝓛 ((Result 𝓛 T c y).own r (v ∷ [])) in
+    let O : SProp 𝓤 = sem 𝓛 ((Result 𝓛 T c y).own_val r (v ∷ [])) in
     record {
       prf =
           via 𝓤 (sep 𝓤 L B) (paid 𝓛 Ps _ (had_star 𝓛 y.0.0 T.signature.params T.kept hs y.0.3 ws y.0.4) ss T.signature.lifetimes y.0.0 y.0.1)

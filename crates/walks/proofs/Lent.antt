@@ -1,12 +1,13 @@
 -- A `&κ mut [T]` or a `&κ mut T` that is lent again for a call, and comes back, each as one step of a walk.
---     lend, lend-ref     [what x owns at κ; [κ]_q; Γ]   from   [what x owns at ν, under the name δ; [ν]; what waits; Γ]   for new ν and δ
---     back, back-ref     [its last value under δ; [ν]; what waits; Γ]   to   [what x owns at κ, at its last value; [κ]_q; Γ]
+--     lend, lend_ref     [what x owns at κ; [κ]_q; Γ]   from   [what x owns at ν, under the name δ; [ν]; what waits; Γ]   for new ν and δ
+--     back, back_ref     [its last value under δ; [ν]; what waits; Γ]   to   [what x owns at κ, at its last value; [κ]_q; Γ]
+-- What a callee leaves of a `&mut` that its contract keeps is the last value and the borrow, closed, as one entry: `fsplit`, and drop the borrow, before `back`, `back_ref`, and `Own.antt`'s `back_own` and `back_array`.
 use mathlib.Core.Path.{◌≡◌, refl, sym, subst}
 use Prim.Native.Nat.{ℕ}
 use mathlib.Core.List.{List, [], ◌∷◌}
 use lib.ListN.{length}
 use seplogic.Ra.Ura.{Ura}
-use seplogic.Ra.TreeShare.{full_share}
+use base.Fraction.{full_share}
 use mir.Syntax.{erased}
 use base.Fml.{Lft, GName, Share, fsep, feq, flft, fres}
 use types.Logic.{Logic}
@@ -24,7 +25,7 @@ named_as x δ = record { ref_ptr = x.ref_ptr; ghost_name = δ; now = x.now }
 
 -- what a slice owns at κ, where its machine value has the count m, and what waits while it is lent
 abbrev pub slice : {M : Type 1} (𝓤 : Ura M) (R : RattleType) → Lft → MutBor (List R.Denot) → ℕ → Item 𝓤
-slice 𝓤 R κ x m = ‵ ((MutSlice erased κ R).own_val x (slice_val x.ptr m ∷ []))
+slice 𝓤 R κ x m = ‵ ((MutSlice erased κ R).own_val x (slice_val x.ref_ptr m ∷ []))
 
 abbrev pub waits : {M : Type 1} (𝓤 : Ura M) (R : RattleType) → Lft → Share → MutBor (List R.Denot) → ℕ → GName → Item 𝓤
 waits 𝓤 R κ q x ν δ = ‵ (LentAgain R κ (ν ∷ []) q x.ghost_name x.ref_ptr.0 x.ref_ptr.1 δ x.now)

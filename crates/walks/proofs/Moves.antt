@@ -2,7 +2,7 @@
 use mathlib.Core.List.{List, [], ◌∷◌}
 use Prim.Native.Nat.{ℕ, zero, suc, ◌+◌, ◌*◌}
 use seplogic.Ra.Ura.{Ura}
-use seplogic.Ra.TreeShare.{full_share}
+use base.Fraction.{full_share}
 use mir.Syntax.{Ty, Local, local}
 use mir.Val.{Val}
 use base.Logic.{SProp, ent, sep, emp, id⊢, via, mono_r, mono∗, emp∗, snd∗}
@@ -83,7 +83,7 @@ star (P ∷ Ps) = fsep P (star Ps)
 
 abbrev pub each_of : (Rs : List RattleType) → Denots Rs → Valss Rs → List Fml
 each_of [] a vss = []
-each_of (R ∷ Rs) a vss = R.own a.0 vss.0 ∷ each_of Rs a.1 vss.1
+each_of (R ∷ Rs) a vss = R.own_val a.0 vss.0 ∷ each_of Rs a.1 vss.1
 
 module _ {M : Type 1} {𝓤 : Ura M} (𝓛 : Logic 𝓤) where
   open 𝓛 use {A}

@@ -4,7 +4,7 @@ use Prim.Native.Nat.{ℕ}
 use mathlib.Core.List.{List, [], ◌∷◌}
 use lib.ListN.{length}
 use seplogic.Ra.Ura.{Ura}
-use seplogic.Ra.TreeShare.{full_share}
+use base.Fraction.{full_share}
 use mir.Syntax.{ty_array, erased}
 use mir.Val.{Val, vptr}
 use base.Logic.{ent, emp, ex}
@@ -34,13 +34,13 @@ ref_to b δ x = record { ref_ptr = (b, 0); ghost_name = δ; now = x }
 
 module _ {M : Type 1} {𝓤 : Ura M} (𝓛 : Logic 𝓤) where
   module _ (T : Declared) (L : LL.Laws T) where
-    one_apart : (h : T.D) (b : ℕ) → ent 𝓤 (emp 𝓤) (sem 𝓛 ((row T).own h (LL.vals T L h))) → ent 𝓤 (sem 𝓛 (fat full_share (lone (row T).mir) b 0 (LL.val T L h)))
+    one_apart : (h : T.D) (b : ℕ) → ent 𝓤 (emp 𝓤) (sem 𝓛 ((row T).own_val h (LL.vals T L h))) → ent 𝓤 (sem 𝓛 (fat full_share (lone (row T).mir) b 0 (LL.val T L h)))
         (sem 𝓛 ((mem (row T)).own_at h b 0))
     unfolding part_of
     one_apart h b own =
         qed 𝓛 (‵ (fat full_share (lone (row T).mir) b 0 (LL.val T L h)) ∷ []) ∵ use1 𝓛 (‵ (cell_at full_share (row T).mir (LL.vals T L h) b 0))
         (𝓛.laws.at_raw full_share (lone (row T).mir) b 0 (LL.val T L h)) $
-        use0 𝓛 (‵ ((row T).own h (LL.vals T L h))) own $ move ! (1 ∷ 0 ∷ []) $ fjoin ! $ fpack ! (List Val) (λ us. fsep (cell_at full_share (row T).mir us b 0) ((row T).own h us)) (LL.vals T L h) $
+        use0 𝓛 (‵ ((row T).own_val h (LL.vals T L h))) own $ move ! (1 ∷ 0 ∷ []) $ fjoin ! $ fpack ! (List Val) (λ us. fsep (cell_at full_share (row T).mir us b 0) ((row T).own_val h us)) (LL.vals T L h) $
         done !
 
     one_whole : (h : T.D) (b : ℕ) → ent 𝓤 (sem 𝓛 ((mem (row T)).own_at h b 0)) (sem 𝓛 (fat full_share (lone (row T).mir) b 0 (LL.val T L h)))
@@ -69,7 +69,7 @@ module _ {M : Type 1} {𝓤 : Ura M} (𝓛 : Logic 𝓤) where
         show ! (λ (w : Val). sem 𝓛 (fat full_share (ty_array (lone R.mir) n) b 0 w)) (array_val us) $ done !))))
 
 module _ {M : Type 1} {𝓤 : Ura M} {𝓛 : Logic 𝓤} {K : Type 0} {Γ : List (Item 𝓤)} {G : Goal 𝓤 𝓛.H} where
-  pub lend_own : K → Soaks G → (T : Declared) (L : LL.Laws T) (h : T.D) (b : ℕ) → ent 𝓤 (emp 𝓤) (sem 𝓛 ((row T).own h (LL.vals T L h)))
+  pub lend_own : K → Soaks G → (T : Declared) (L : LL.Laws T) (h : T.D) (b : ℕ) → ent 𝓤 (emp 𝓤) (sem 𝓛 ((row T).own_val h (LL.vals T L h)))
       → ((ν : ℕ) (δ : GName) → Seq K 𝓛 (‵ ((MutRef erased (ν ∷ []) (row T)).own_val (ref_to b δ h) (vptr b 0 ∷ [])) ∷ ‵ (flft (ν ∷ []) full_share) ∷ ‵ (flent (ν ∷ []) (Body (mem (row T)) b 0 δ)) ∷ Γ) G)
       → Seq K 𝓛 (‵ (fat full_share (lone (row T).mir) b 0 (LL.val T L h)) ∷ Γ) G
   lend_own t z T L h b own k = use1 𝓛 (‵ ((mem (row T)).own_at h b 0)) (one_apart 𝓛 T L h b own) $ lft_new t z (λ ν. move t (1 ∷ []) $

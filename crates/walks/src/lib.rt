@@ -1,1 +1,2 @@
 // No code: the laws that walks by hand share stand in proofs/.
+#![tactic(auto)]

@@ -1,0 +1,15 @@
+use Prim.Native.Nat.{◌-◌}
+use Rattle.graph.specs.Arrows.{SomeOf, EveryOf}
+use Rattle.prune.specs.Trim.{TrimAsk}
+use Rattle.prune.specs.Prune.{Pruned, AllStanding}
+use Rattle.prune.proofs.Along.{Along}
+use Rattle.prune.proofs.Rounds.{Before}
+use Rattle.prune.proofs.queue.pass.Given as goal
+
+abbrev pub invariant-loop-i : goal.invariant-loop-i
+invariant-loop-i l =
+    SomeOf l.n l.m (λ g. TrimAsk g l.b l.h l.q l.initial.w × Pruned g l.b l.q 0 l.initial.w l.w l.k) × Along l.n l.b l.q l.initial.w l.i
+    × EveryOf l.n l.m (λ g. TrimAsk g l.b l.h l.q l.initial.w → Pruned g l.b l.q 0 l.initial.w l.w l.k × AllStanding g l.b l.q (Before l.n l.b l.initial.w l.i) 0 l.k l.w)
+
+abbrev pub decreases-loop-i : goal.decreases-loop-i
+decreases-loop-i l = l.n - l.i
