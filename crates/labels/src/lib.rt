@@ -1,4 +1,6 @@
 // The label file, written from a label column.
+#![tactic(auto)]
+
 ghost use Rattle.std.specs.Prelude.{◌≡◌, ◌≤◌, ◌*◌, length};
 ghost use Rattle.graph.specs.Limits.{most_vertices};
 ghost use Rattle.labels.specs.File.{label_lines, label_file};

@@ -1,4 +1,6 @@
 // The Matrix Market reader: it judges the whole text before it writes.
+#![tactic(auto)]
+
 ghost use Rattle.std.specs.Prelude.{◌≡◌, min};
 ghost use Rattle.graph.specs.Limits.{most_vertices, most_edges};
 ghost use Rattle.text.specs.Steps.{limits, JudgeSaid};
