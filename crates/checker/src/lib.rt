@@ -12,7 +12,7 @@ pub mod checks;
 // What stands in an edge column where there is no edge.
 pub const NO_EDGE: u32 = 4294967295;
 
-#[derive(Drop)]
+#[derive(Clone, Copy)]
 pub enum Verdict {
     Accepted,
     // the first failed check with its vertex, for check 5 its edge

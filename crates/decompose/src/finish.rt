@@ -3,7 +3,7 @@ ghost use Rattle.decompose.specs.Finish.{FinishAsk, Ended};
 
 use machine::Machine;
 
-#[derive(Drop)]
+#[derive(Clone, Copy)]
 pub enum Answer {
     Done { draws: usize },
     Refused(u32),

@@ -1,6 +1,4 @@
 // The label file, written from a label column.
-#![tactic(auto)]
-
 ghost use Rattle.std.specs.Prelude.{◌≡◌, ◌≤◌, ◌*◌, length};
 ghost use Rattle.graph.specs.Limits.{most_vertices};
 ghost use Rattle.labels.specs.File.{label_lines, label_file};
@@ -11,7 +9,7 @@ pub mod put;
 
 use graph::limits;
 
-#[derive(Drop)]
+#[derive(Clone, Copy)]
 pub enum Answer {
     Done { bytes: usize },
     Refused(u32),

@@ -6,7 +6,7 @@ ghost use Rattle.labels.specs.Steps.{most_number, Measured, Written, Fits};
 use lines::pieces;
 
 // How many digits a number has, and the power of ten with one zero for each.
-#[derive(Drop)]
+#[derive(Clone, Copy)]
 pub struct Width {
     pub digits: usize,
     pub power: u64,

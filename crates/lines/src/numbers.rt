@@ -13,7 +13,7 @@ pub const MOST_DIGITS: usize = 9;
 pub const LONGEST_LINE: usize = 1024;
 
 // A word as a number.
-#[derive(Drop)]
+#[derive(Clone, Copy)]
 pub enum Number {
     Is(u32),
     Faulty,
@@ -46,7 +46,7 @@ pub fn number_of(word: &[u8]) -> Number
 }
 
 // How many numbers were found, and the first three; 0 where there is none.
-#[derive(Drop)]
+#[derive(Clone, Copy)]
 pub struct Found {
     pub count: usize,
     pub first: u32,
@@ -55,7 +55,7 @@ pub struct Found {
 }
 
 // The numbers of a line, or that it is faulty.
-#[derive(Drop)]
+#[derive(Clone, Copy)]
 pub enum Row {
     Numbers(Found),
     Faulty,

@@ -6,7 +6,7 @@ ghost use Rattle.lines.specs.Answers.{Ended};
 pub const LF: u8 = 10;
 
 // The next piece: its start, its end, and where the next one starts; or none is left.
-#[derive(Drop)]
+#[derive(Clone, Copy)]
 pub enum Piece {
     At {
         start: usize,

@@ -7,7 +7,7 @@ use waiting::Part;
 
 pub mod step;
 
-#[derive(Drop)]
+#[derive(Clone, Copy)]
 pub struct Machine {
     // 0 when nothing is left to do
     pub go: usize,

@@ -3,7 +3,7 @@ pub mod segments;
 pub mod stores;
 
 // Where the search stands: how many are on the stack, segments of it, how many on the path; the path's last vertex, its next edge and the end of its edges. The steps that the call counted which led here.
-#[derive(Drop)]
+#[derive(Clone, Copy)]
 pub struct Stand {
     pub stack: usize,
     pub fronts: usize,

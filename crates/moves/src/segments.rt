@@ -2,14 +2,14 @@
 ghost use Rattle.moves.specs.Moves.{ScanAsk, Scanned, CutAsk, Cut, BoundAsk, Bound, Lower, LowestAsk, Lowest, PaintAsk, Painted, CloseAsk, Closed};
 
 // What is left of stack and fronts.
-#[derive(Drop)]
+#[derive(Clone, Copy)]
 pub struct Sizes {
     pub stack: usize,
     pub fronts: usize,
 }
 
 // The edge where a scan ended, and the fronts that it left.
-#[derive(Drop)]
+#[derive(Clone, Copy)]
 pub struct Halt {
     pub cursor: usize,
     pub fronts: usize,

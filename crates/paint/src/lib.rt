@@ -9,7 +9,7 @@ ghost use Rattle.paint.specs.Paint.{VisitAsk, Visited, ScanAsk, Scanned, LevelAs
 pub mod distances;
 
 // The queue's new length, and the number of edges looked at.
-#[derive(Drop)]
+#[derive(Clone, Copy)]
 pub struct Step {
     pub k: usize,
     pub edges: usize,

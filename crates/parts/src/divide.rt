@@ -7,7 +7,7 @@ use memory::decomposer::ORDER;
 use pivot::chooser::Chooser;
 
 // The chooser's state and the draws made, the first colour that no part has, and the number of pending parts.
-#[derive(Drop)]
+#[derive(Clone, Copy)]
 pub struct Divided {
     pub state: u32,
     pub draws: usize,

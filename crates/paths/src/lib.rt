@@ -6,7 +6,7 @@ use graph::{limits, table};
 
 pub mod walk;
 
-#[derive(Drop)]
+#[derive(Clone, Copy)]
 pub enum Answer {
     Done { length: usize },
     Refused(u32),

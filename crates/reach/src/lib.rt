@@ -7,7 +7,7 @@ mod steps;
 use graph::{limits, table};
 
 // What a search answers: how many vertices it reached and how many counted edges it looked at, or the number by which it refuses.
-#[derive(Drop)]
+#[derive(Clone, Copy)]
 pub enum Answer {
     Done { vertices: usize, edges: usize },
     Refused(u32),

@@ -9,7 +9,7 @@ use memory::decomposer::{ENTERING, SEEDS};
 use prune::cursor;
 
 // How many seeds are listed, and how many vertices have gone.
-#[derive(Drop)]
+#[derive(Clone, Copy)]
 pub struct Count {
     pub seeds: usize,
     pub gone: usize,

@@ -7,7 +7,7 @@ ghost use Rattle.summary.specs.Counts.{one, Low, Added, Fresh, Counted, Folded};
 const BLOCK: usize = 4096;
 
 // Labels shared by two or more vertices, and the most vertices that share one.
-#[derive(Drop)]
+#[derive(Clone, Copy)]
 pub struct Totals {
     pub rings: u32,
     pub largest: u32,

@@ -5,14 +5,14 @@ ghost use Rattle.sweep.specs.Drawn.{PickAsk, Picked, DrawAsk, Drawn, RunAsk, Dra
 use crate::{Outcome, set};
 
 // What is left of the part after a pivot, and the first colour that no part has.
-#[derive(Drop)]
+#[derive(Clone, Copy)]
 struct Rest {
     left: usize,
     top: usize,
 }
 
 // The same after a draw, and the state.
-#[derive(Drop)]
+#[derive(Clone, Copy)]
 struct Step {
     state: u32,
     left: usize,

@@ -9,7 +9,7 @@ pub mod drawn;
 pub mod set;
 
 // The chooser's state and the draws made, and the first colour that no part has.
-#[derive(Drop)]
+#[derive(Clone, Copy)]
 pub struct Outcome {
     pub state: u32,
     pub draws: usize,

@@ -6,7 +6,7 @@ ghost use Rattle.sweep.specs.Drawn.{EnterAsk, Entered, MarkAsk, Marks, StrikeAsk
 use memory::decomposer::{CHAINS, ORDER};
 
 // How many a search has painted, and how many are left in the set.
-#[derive(Drop)]
+#[derive(Clone, Copy)]
 pub struct Found {
     pub k: usize,
     pub left: usize,

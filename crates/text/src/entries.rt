@@ -10,7 +10,7 @@ use lines::pieces::Piece;
 use lines::{numbers, pieces};
 
 // A line after the size line.
-#[derive(Drop)]
+#[derive(Clone, Copy)]
 pub enum Entry {
     Blank,
     Edge { source: u32, target: u32 },
@@ -18,7 +18,7 @@ pub enum Entry {
 }
 
 // How many entries are still to come, or that a line is faulty or one too many.
-#[derive(Drop)]
+#[derive(Clone, Copy)]
 pub enum Left {
     Is(usize),
     Faulty,

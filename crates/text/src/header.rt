@@ -12,14 +12,14 @@ use lines::{numbers, pieces};
 const PERCENT: u8 = 37;
 
 // The size line: vertices and entries.
-#[derive(Drop)]
+#[derive(Clone, Copy)]
 pub enum Size {
     Is { n: usize, count: usize },
     Refused(u32),
 }
 
 // The lines up to the size line: vertices, entries, and where the entry lines start.
-#[derive(Drop)]
+#[derive(Clone, Copy)]
 pub enum Head {
     Is { n: usize, count: usize, next: usize },
     Refused(u32),

@@ -1,6 +1,4 @@
 // The Matrix Market reader: it judges the whole text before it writes.
-#![tactic(auto)]
-
 ghost use Rattle.std.specs.Prelude.{◌≡◌, min};
 ghost use Rattle.graph.specs.Limits.{most_vertices, most_edges};
 ghost use Rattle.text.specs.Steps.{limits, JudgeSaid};
@@ -12,7 +10,7 @@ mod header;
 use crate::header::Head;
 use graph::limits;
 
-#[derive(Drop)]
+#[derive(Clone, Copy)]
 pub enum Answer {
     Done { n: usize, edges: usize },
     Refused(u32),

@@ -7,7 +7,7 @@ mod stages;
 use graph::{limits, table};
 
 // What trimming answers: the number of vertices left, or the number by which it refuses.
-#[derive(Drop)]
+#[derive(Clone, Copy)]
 pub enum Answer {
     Done { vertices: usize },
     Refused(u32),

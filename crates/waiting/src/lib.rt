@@ -4,7 +4,7 @@ ghost use Rattle.waiting.specs.Records.{none};
 
 // A waiting part.
 #[repr(C)]
-#[derive(Drop)]
+#[derive(Clone, Copy)]
 pub struct Part {
     // its first place in the order of the pivots, not a vertex
     pub first: u32,

@@ -9,3 +9,9 @@ returns-then-not-right c = search judge_wrong
 
 pub returns : goal.returns
 returns c = search judge_right
+
+-- LEFT
+-- head_of-head-requires: (search rules)
+-- enum_known-head: (search rules)
+-- enum_told-1: (search rules)
+-- right-requires: (search rules)

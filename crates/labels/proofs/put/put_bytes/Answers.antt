@@ -1,4 +1,5 @@
 use native.Mathlib.Omega.{arith}
+use Prim.Native.Nat.{◌-◌}
 use Rattle.labels.proofs.Bytes.{copy_none, copy_step, copy_end}
 use Rattle.labels.proofs.put.put_bytes.Goals as goal
 

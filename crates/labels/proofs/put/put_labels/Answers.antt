@@ -1,4 +1,5 @@
 use native.Mathlib.Omega.{arith}
+use Prim.Native.Nat.{◌-◌}
 use Rattle.labels.proofs.Bytes.{putting_none, lines_room, lines_step, lines_end}
 use Rattle.labels.proofs.put.put_labels.Goals as goal
 

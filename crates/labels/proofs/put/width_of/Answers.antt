@@ -1,3 +1,4 @@
+use Prim.Native.Nat.{◌-◌}
 use Rattle.labels.proofs.Decimal.{grow_none, grow_step, grow_end}
 use Rattle.labels.proofs.put.width_of.Goals as goal
 

@@ -1,4 +1,5 @@
 use Rattle.text.proofs.Edges.{inside_low, entry_is_faulty, entry_blank, entry_other, entry_first, entry_second, entry_edge}
+use Rattle.std.proofs.lemmas.Bool.{not_from_true}
 use Rattle.text.proofs.entries.entry_of.Goals as goal
 
 pub returns-in_default : goal.returns-in_default
@@ -17,10 +18,10 @@ pub returns-then-not-inside-2 : goal.returns-then-not-inside-2
 returns-then-not-inside-2 c = search entry_second
 
 pub overflow_sub-result : goal.overflow_sub-result
-overflow_sub-result c = search inside_low
+overflow_sub-result c = inside_low _ _ _ c.inside.ensures (not_from_true _ c.if-not-inside.false)
 
 pub overflow_sub-result-2 : goal.overflow_sub-result-2
-overflow_sub-result-2 c = search inside_low
+overflow_sub-result-2 c = inside_low _ _ _ c.inside-2.ensures (not_from_true _ c.if-not-inside-2.false)
 
 pub returns : goal.returns
 returns c = search entry_edge

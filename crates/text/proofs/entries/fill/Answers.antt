@@ -1,3 +1,4 @@
+use Prim.Native.Nat.{◌-◌}
 use Rattle.lines.proofs.Split.{piece_order, piece_ends, piece_less}
 use Rattle.text.proofs.Edges.{filling_none, filling_end, filling_gap, filling_step}
 use Rattle.text.proofs.entries.fill.Goals as goal

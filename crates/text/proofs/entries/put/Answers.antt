@@ -1,3 +1,4 @@
+use Rattle.graph.specs.Refusal.{given}
 use Rattle.text.specs.Steps.{place_after, sources_after, targets_after}
 use Rattle.text.proofs.entries.put.Goals as goal
 

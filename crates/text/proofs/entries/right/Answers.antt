@@ -1,4 +1,5 @@
 use mathlib.Core.Path.{refl}
+use Prim.Native.Nat.{◌-◌}
 use Rattle.lines.proofs.Split.{piece_order, piece_ends, piece_less}
 use Rattle.text.proofs.Edges.{right_end, right_stop, right_step}
 use Rattle.text.proofs.entries.right.Goals as goal

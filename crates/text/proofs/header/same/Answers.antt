@@ -1,5 +1,6 @@
 use native.Mathlib.Omega.{arith}
 use mathlib.Core.Path.{refl}
+use Prim.Native.Nat.{◌-◌}
 use Rattle.text.proofs.Head.{same_uneven, same_step, same_stop, same_end}
 use Rattle.text.proofs.header.same.Goals as goal
 

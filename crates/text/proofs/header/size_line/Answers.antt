@@ -1,4 +1,5 @@
 use mathlib.Core.Path.{refl}
+use Prim.Native.Nat.{◌-◌}
 use Rattle.lines.proofs.Split.{piece_order, piece_ends, piece_less}
 use Rattle.text.proofs.Head.{pass_step, pass_stop, pass_end}
 use Rattle.text.proofs.header.size_line.Goals as goal
