@@ -1,4 +1,6 @@
-// The entry for C: the label file of a text.
+// The entry: the label file of a text. entry_c has it for C.
+#![tactic(auto)]
+
 ghost use Rattle.std.specs.Prelude.{◌≡◌, length};
 ghost use Rattle.graph.specs.Graph.{graph};
 ghost use Rattle.graph.specs.Search.{labels};
@@ -52,8 +54,8 @@ pub fn label_text(text: &[u8], out: &mut [u8]) -> Answer
     }
 }
 
-#[unsafe(no_mangle)]
-pub extern "C" fn tinoweala_label_text(text: &[u8], out: &mut [u8]) -> i64
+// What entry_c exports under the same name.
+pub fn tinoweala_label_text(text: &[u8], out: &mut [u8]) -> i64
     ensures { Promise text.now out.old result out.new }
 {
     match label_text(text, out) {

@@ -1,57 +1,51 @@
 // Calls the entry on each text that its arguments name and writes the label file, or the number of the refusal.
-ghost use Rattle.io.specs.Counts.{IsPrefixLen};
+#![tactic(auto)]
+ghost use Rattle.std.specs.Prelude.{◌≡◌, ◌≤◌, length};
 
 use labels::Answer;
+use std::fs::File;
+use std::io::{Read, Write};
+use std::rt::Files;
+use std::{env, io};
+
+// Of a longer text the front is read.
+const MOST_BYTES: u64 = 65536;
 
 // The count of bytes at the front of the buffer; 0 if it has fewer.
 fn fitting(bytes: usize, buf: &[u8]) -> usize
-    ensures { IsPrefixLen result buf.now }
+    ensures within { result ≤ length buf.now }
+    ensures all { bytes ≤ length buf.now → result ≡ bytes }
 {
     if buf.len() < bytes {
         return 0;
     }
-    io::count(bytes as isize, buf)
+    bytes
 }
 
-fn refused(k: u32) {
-    io::write_all(1, b"refused ");
-    io::print_decimal(1, k as u64);
-    io::write_all(1, b"\n");
-}
-
-fn label(text: &[u8]) {
-    let mut out = io::buffer();
+fn label(rt: &impl Print, text: &[u8]) -> io::Result<()> {
+    let mut out = [0u8; 4096];
     match entry::label_text(text, &mut out) {
-        Answer::Refused(k) => refused(k),
+        Answer::Refused(k) => println!(rt; "refused {k}"),
         Answer::Done { bytes } => {
             let k = fitting(bytes, &out);
-            io::write_all(1, &out[..k]);
+            io::writer(rt).write_all(&out[..k])
         }
     }
 }
 
-fn one(i: usize) {
-    let mut path = io::buffer();
-    let length = os::arg(i, &mut path);
-    io::write_all(1, b"== ");
-    io::write_all(1, &path[..length]);
-    io::write_all(1, b"\n");
-    let fd = os::open_read(&path[..length]);
-    if fd < 0 {
-        io::write_all(1, b"no such file\n");
-        return;
-    }
-    let mut text = io::large_buffer();
-    let n = io::read_full(fd, &mut text);
-    libc::close(fd);
-    label(&text[..n]);
+fn one<R: Files + Alloc + Print>(rt: &R, path: &str) -> io::Result<()> {
+    println!(rt; "== {path}")?;
+    let Ok(file) = File::open(rt, path) else {
+        return println!(rt; "no such file");
+    };
+    let mut text = Vec::new(rt.alloc());
+    file.take(MOST_BYTES).read_to_end(&mut text)?;
+    label(rt, &text)
 }
 
-fn main() {
-    let n = os::arg_count();
-    let mut i: usize = 1;
-    while i < n {
-        one(i);
-        i += 1;
+fn main(rt: HostRuntime) -> io::Result<()> {
+    for path in env::args(&rt)?.skip(1) {
+        one(&rt, path.as_str())?;
     }
+    Ok(())
 }

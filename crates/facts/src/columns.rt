@@ -2,9 +2,11 @@
 use crate::{out, t};
 use checker::Verdict;
 use graph::limits;
+use std::io;
 
 fn check(
-    name: &[u8],
+    rt: &impl Print,
+    name: &str,
     kinds: &[u8],
     mask: u8,
     label: &[u32],
@@ -13,7 +15,7 @@ fn check(
     in_distance: &[u32],
     out_edge: &[u32],
     out_distance: &[u32],
-) {
+) -> io::Result<()> {
     match checker::check(
         6,
         &t::sources(),
@@ -27,23 +29,25 @@ fn check(
         out_edge,
         out_distance,
     ) {
-        Verdict::Accepted => out::said(name, b"accepted"),
-        Verdict::Failed { check, place } => out::pair(name, check as u64, place as u64),
-        Verdict::Refused(k) => out::refused(name, k),
+        Verdict::Accepted => out::said(rt, name, "accepted"),
+        Verdict::Failed { check, place } => out::pair(rt, name, check as u64, place as u64),
+        Verdict::Refused(k) => out::refused(rt, name, k),
     }
 }
 
 // The columns of T, and with another label column.
 fn labelled(
+    rt: &impl Print,
     rank: &[u32],
     in_edge: &[u32],
     in_distance: &[u32],
     out_edge: &[u32],
     out_distance: &[u32],
-) {
+) -> io::Result<()> {
     let kinds = t::kinds();
     check(
-        b"columns of T",
+        rt,
+        "columns of T",
         &kinds,
         limits::FULL_MASK,
         &t::labels(),
@@ -52,10 +56,11 @@ fn labelled(
         in_distance,
         out_edge,
         out_distance,
-    );
+    )?;
     let label = [0, 0, 0, 3, 3, 3];
     check(
-        b"columns of T with vertex 5 labelled 3, check and vertex",
+        rt,
+        "columns of T with vertex 5 labelled 3, check and vertex",
         &kinds,
         limits::FULL_MASK,
         &label,
@@ -64,18 +69,20 @@ fn labelled(
         in_distance,
         out_edge,
         out_distance,
-    );
+    )
 }
 
 fn masked(
+    rt: &impl Print,
     rank: &[u32],
     in_edge: &[u32],
     in_distance: &[u32],
     out_edge: &[u32],
     out_distance: &[u32],
-) {
+) -> io::Result<()> {
     check(
-        b"columns of T without mentions, check and vertex",
+        rt,
+        "columns of T without mentions, check and vertex",
         &t::mentions(),
         t::HARD,
         &t::labels(),
@@ -84,14 +91,21 @@ fn masked(
         in_distance,
         out_edge,
         out_distance,
-    );
+    )
 }
 
 // With another rank column.
-fn ranked(in_edge: &[u32], in_distance: &[u32], out_edge: &[u32], out_distance: &[u32]) {
+fn ranked(
+    rt: &impl Print,
+    in_edge: &[u32],
+    in_distance: &[u32],
+    out_edge: &[u32],
+    out_distance: &[u32],
+) -> io::Result<()> {
     let rank = [0, 0, 0, 0, 0, 0];
     check(
-        b"columns of T with ranks of 3 and 4 zero, check and edge",
+        rt,
+        "columns of T with ranks of 3 and 4 zero, check and edge",
         &t::kinds(),
         limits::FULL_MASK,
         &t::labels(),
@@ -100,7 +114,7 @@ fn ranked(in_edge: &[u32], in_distance: &[u32], out_edge: &[u32], out_distance: 
         in_distance,
         out_edge,
         out_distance,
-    );
+    )
 }
 
 // The writer on these labels. The number returned.
@@ -133,7 +147,7 @@ fn write(
     )
 }
 
-pub fn run() {
+pub fn run(rt: &impl Print) -> io::Result<()> {
     let mut rank = [9u32; 6];
     let mut in_edge = [9u32; 6];
     let mut in_distance = [9u32; 6];
@@ -150,15 +164,15 @@ pub fn run() {
         &mut out_distance,
     );
     if k != 0 {
-        return out::refused(b"P4 and P5 columns of T", k);
+        return out::refused(rt, "P4 and P5 columns of T", k);
     }
-    out::row(b"P4 ranks of T", &rank);
-    out::row(b"P5 in-distances of T", &in_distance);
-    out::row(b"P5 out-distances of T", &out_distance);
+    out::row(rt, "P4 ranks of T", &rank)?;
+    out::row(rt, "P5 in-distances of T", &in_distance)?;
+    out::row(rt, "P5 out-distances of T", &out_distance)
 }
 
 // The checker on what the writer wrote, without mentions, and on two wrong columns beside it.
-pub fn judge() {
+pub fn judge(rt: &impl Print) -> io::Result<()> {
     let mut rank = [9u32; 6];
     let mut in_edge = [9u32; 6];
     let mut in_distance = [9u32; 6];
@@ -175,14 +189,14 @@ pub fn judge() {
         &mut out_distance,
     );
     if k != 0 {
-        return out::refused(b"columns of T", k);
+        return out::refused(rt, "columns of T", k);
     }
-    labelled(&rank, &in_edge, &in_distance, &out_edge, &out_distance);
-    masked(&rank, &in_edge, &in_distance, &out_edge, &out_distance);
-    ranked(&in_edge, &in_distance, &out_edge, &out_distance);
+    labelled(rt, &rank, &in_edge, &in_distance, &out_edge, &out_distance)?;
+    masked(rt, &rank, &in_edge, &in_distance, &out_edge, &out_distance)?;
+    ranked(rt, &in_edge, &in_distance, &out_edge, &out_distance)
 }
 
-pub fn without_mentions() {
+pub fn without_mentions(rt: &impl Print) -> io::Result<()> {
     let mut rank = [9u32; 6];
     let mut in_edge = [9u32; 6];
     let mut in_distance = [9u32; 6];
@@ -199,7 +213,7 @@ pub fn without_mentions() {
         &mut out_distance,
     );
     if k != 0 {
-        return out::refused(b"columns of T without mentions", k);
+        return out::refused(rt, "columns of T without mentions", k);
     }
-    out::row(b"ranks of T without mentions", &rank);
+    out::row(rt, "ranks of T without mentions", &rank)
 }

@@ -1,4 +1,6 @@
 // Runs the functions on the facts of document 01 and writes what they give: P1 to P11, what is only run, then T with a mention.
+#![tactic(auto)]
+
 mod columns;
 mod components;
 mod draws;
@@ -10,18 +12,20 @@ mod tables;
 mod texts;
 mod walks;
 
-fn main() {
-    components::run();
-    columns::run();
-    searches::run();
-    walks::run();
-    draws::run();
-    summaries::run();
-    columns::judge();
-    tables::run();
-    texts::run();
-    components::mentions();
-    columns::without_mentions();
-    searches::without_mentions();
-    walks::without_mentions();
+use std::io;
+
+fn main(rt: HostRuntime) -> io::Result<()> {
+    components::run(&rt)?;
+    columns::run(&rt)?;
+    searches::run(&rt)?;
+    walks::run(&rt)?;
+    draws::run(&rt)?;
+    summaries::run(&rt)?;
+    columns::judge(&rt)?;
+    tables::run(&rt)?;
+    texts::run(&rt)?;
+    components::mentions(&rt)?;
+    columns::without_mentions(&rt)?;
+    searches::without_mentions(&rt)?;
+    walks::without_mentions(&rt)
 }

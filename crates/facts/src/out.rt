@@ -1,51 +1,45 @@
 // Lines on standard output: a name, and the numbers it has.
-fn begin(name: &[u8]) {
-    io::write_all(1, name);
-    io::write_all(1, b":");
+use std::io;
+
+fn begin(rt: &impl Print, name: &str) -> io::Result<()> {
+    print!(rt; "{name}:")
 }
 
-fn item(value: u64) {
-    io::write_all(1, b" ");
-    io::print_decimal(1, value);
+fn item(rt: &impl Print, value: u64) -> io::Result<()> {
+    print!(rt; " {value}")
 }
 
-fn end() {
-    io::write_all(1, b"\n");
+fn end(rt: &impl Print) -> io::Result<()> {
+    println!(rt;)
 }
 
-pub fn value(name: &[u8], value: u64) {
-    begin(name);
-    item(value);
-    end();
+pub fn value(rt: &impl Print, name: &str, value: u64) -> io::Result<()> {
+    begin(rt, name)?;
+    item(rt, value)?;
+    end(rt)
 }
 
-pub fn row(name: &[u8], values: &[u32]) {
-    begin(name);
-    let mut i = 0;
-    while i < values.len() {
-        item(values[i] as u64);
-        i += 1;
+pub fn row(rt: &impl Print, name: &str, values: &[u32]) -> io::Result<()> {
+    begin(rt, name)?;
+    for x in values {
+        item(rt, u64::from(*x))?;
     }
-    end();
+    end(rt)
 }
 
-pub fn refused(name: &[u8], number: u32) {
-    io::write_all(1, name);
-    io::write_all(1, b": refused");
-    item(number as u64);
-    end();
+pub fn refused(rt: &impl Print, name: &str, number: u32) -> io::Result<()> {
+    print!(rt; "{name}: refused")?;
+    item(rt, u64::from(number))?;
+    end(rt)
 }
 
-pub fn pair(name: &[u8], a: u64, b: u64) {
-    begin(name);
-    item(a);
-    item(b);
-    end();
+pub fn pair(rt: &impl Print, name: &str, a: u64, b: u64) -> io::Result<()> {
+    begin(rt, name)?;
+    item(rt, a)?;
+    item(rt, b)?;
+    end(rt)
 }
 
-pub fn said(name: &[u8], words: &[u8]) {
-    begin(name);
-    io::write_all(1, b" ");
-    io::write_all(1, words);
-    end();
+pub fn said(rt: &impl Print, name: &str, words: &str) -> io::Result<()> {
+    println!(rt; "{name}: {words}")
 }

@@ -1,22 +1,25 @@
 // The program's vertex limit, at its two sides.
 use crate::out;
 use labels::Answer;
+use std::io;
 
-fn label_text(name: &[u8], text: &[u8]) {
-    let mut file = io::buffer();
+fn label_text(rt: &impl Print, name: &str, text: &[u8]) -> io::Result<()> {
+    let mut file = [0u8; 4096];
     match entry::label_text(text, &mut file) {
-        Answer::Done { bytes } => out::value(name, bytes as u64),
-        Answer::Refused(k) => out::refused(name, k),
+        Answer::Done { bytes } => out::value(rt, name, bytes as u64),
+        Answer::Refused(k) => out::refused(rt, name, k),
     }
 }
 
-pub fn run() {
+pub fn run(rt: &impl Print) -> io::Result<()> {
     label_text(
-        b"the entry on 512 vertices, bytes written",
+        rt,
+        "the entry on 512 vertices, bytes written",
         b"%%MatrixMarket matrix coordinate pattern general\n512 512 0\n",
-    );
+    )?;
     label_text(
-        b"the entry on 513 vertices",
+        rt,
+        "the entry on 513 vertices",
         b"%%MatrixMarket matrix coordinate pattern general\n513 513 0\n",
-    );
+    )
 }

@@ -4,8 +4,7 @@ ghost use Rattle.checker.specs.Promise.{call as checking};
 ghost use Rattle.surface.specs.Check.{Checked};
 ghost use Rattle.surface.specs.Summary.{Summed};
 
-#[unsafe(no_mangle)]
-pub extern "C" fn tinoweala_write_certificate(
+pub fn tinoweala_write_certificate(
     n: usize,
     sources: &[u32],
     targets: &[u32],
@@ -39,8 +38,7 @@ pub extern "C" fn tinoweala_write_certificate(
     )
 }
 
-#[unsafe(no_mangle)]
-pub extern "C" fn tinoweala_check_certificate(
+pub fn tinoweala_check_certificate(
     n: usize,
     sources: &[u32],
     targets: &[u32],
@@ -84,8 +82,7 @@ pub extern "C" fn tinoweala_check_certificate(
     }
 }
 
-#[unsafe(no_mangle)]
-pub extern "C" fn tinoweala_summary(
+pub fn tinoweala_summary(
     n: usize,
     label: &[u32],
     own: &mut u32,

@@ -21,8 +21,7 @@ fn hand(answer: Answer, draws: &mut usize) -> u32
     }
 }
 
-#[unsafe(no_mangle)]
-pub extern "C" fn tinoweala_decompose(
+pub fn tinoweala_decompose(
     n: usize,
     sources: &[u32],
     targets: &[u32],
@@ -47,8 +46,7 @@ pub extern "C" fn tinoweala_decompose(
     hand(answer, draws)
 }
 
-#[unsafe(no_mangle)]
-pub extern "C" fn tinoweala_label(
+pub fn tinoweala_label(
     n: usize,
     sources: &[u32],
     targets: &[u32],

@@ -5,20 +5,13 @@ ghost use Rattle.surface.specs.Search.{Searched};
 ghost use Rattle.surface.specs.Trim.{Trimmed};
 ghost use Rattle.surface.specs.Path.{Walked};
 
-#[unsafe(no_mangle)]
-pub extern "C" fn tinoweala_check_table(
-    n: usize,
-    sources: &[u32],
-    targets: &[u32],
-    kinds: &[u8],
-) -> u32
+pub fn tinoweala_check_table(n: usize, sources: &[u32], targets: &[u32], kinds: &[u8]) -> u32
     ensures { result ≡ table_refusal n sources.now targets.now kinds.now }
 {
     graph::table::check(n, sources, targets, kinds)
 }
 
-#[unsafe(no_mangle)]
-pub extern "C" fn tinoweala_search(
+pub fn tinoweala_search(
     n: usize,
     sources: &[u32],
     targets: &[u32],
@@ -50,8 +43,7 @@ pub extern "C" fn tinoweala_search(
     }
 }
 
-#[unsafe(no_mangle)]
-pub extern "C" fn tinoweala_trim(
+pub fn tinoweala_trim(
     n: usize,
     sources: &[u32],
     targets: &[u32],
@@ -74,8 +66,7 @@ pub extern "C" fn tinoweala_trim(
     }
 }
 
-#[unsafe(no_mangle)]
-pub extern "C" fn tinoweala_path(
+pub fn tinoweala_path(
     n: usize,
     sources: &[u32],
     targets: &[u32],

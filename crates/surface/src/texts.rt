@@ -3,8 +3,7 @@ ghost use Rattle.graph.specs.Limits.{most_vertices, most_edges};
 ghost use Rattle.surface.specs.Read.{Read};
 ghost use Rattle.surface.specs.Labels.{Written};
 
-#[unsafe(no_mangle)]
-pub extern "C" fn tinoweala_read_text(
+pub fn tinoweala_read_text(
     text: &[u8],
     sources: &mut [u32],
     targets: &mut [u32],
@@ -23,8 +22,7 @@ pub extern "C" fn tinoweala_read_text(
     }
 }
 
-#[unsafe(no_mangle)]
-pub extern "C" fn tinoweala_write_labels(label: &[u32], out: &mut [u8], bytes: &mut usize) -> u32
+pub fn tinoweala_write_labels(label: &[u32], out: &mut [u8], bytes: &mut usize) -> u32
     ensures { Written label.now out.old bytes.old out.new (result, bytes.new) }
 {
     match labels::write(label, out) {

@@ -1,5 +1,14 @@
 // Reads each text that its arguments name and writes what the reader makes of it: the table, or the refusal number.
+#![tactic(auto)]
+
+use std::fs::File;
+use std::io::Read;
+use std::rt::Files;
+use std::{env, io};
 use text::Answer;
+
+// Of a longer text the front is read.
+const MOST_BYTES: u64 = 65536;
 
 // Are all places from `from` on still what they were at the start?
 fn unchanged(xs: &[u32], from: usize) -> bool {
@@ -13,82 +22,64 @@ fn unchanged(xs: &[u32], from: usize) -> bool {
     true
 }
 
-fn say(ok: bool) {
+fn say(rt: &impl Print, ok: bool) -> io::Result<()> {
     if ok {
-        io::write_all(1, b"rest unchanged\n");
+        println!(rt; "rest unchanged")
     } else {
-        io::write_all(1, b"rest changed\n");
+        println!(rt; "rest changed")
     }
 }
 
-fn number(x: u64, after: u8) {
-    io::print_decimal(1, x);
-    let end = [after; 1];
-    io::write_all(1, &end);
-}
-
-fn wide(x: u32) -> u64 {
-    x as u64
-}
-
-fn edge(sources: &[u32], targets: &[u32], e: usize) {
+fn edge(rt: &impl Print, sources: &[u32], targets: &[u32], e: usize) -> io::Result<()> {
     if e < sources.len() {
         if e < targets.len() {
-            number(wide(sources[e]), 32);
-            number(wide(targets[e]), 10);
+            println!(rt; "{} {}", sources[e], targets[e])?;
         }
     }
+    Ok(())
 }
 
-fn table(n: usize, edges: usize, sources: &[u32], targets: &[u32]) {
-    io::write_all(1, b"table ");
-    number(n as u64, 32);
-    number(edges as u64, 10);
-    let mut e = 0;
-    while e < edges {
-        edge(sources, targets, e);
-        e += 1;
+fn table(
+    rt: &impl Print,
+    n: usize,
+    edges: usize,
+    sources: &[u32],
+    targets: &[u32],
+) -> io::Result<()> {
+    println!(rt; "table {n} {edges}")?;
+    for e in 0..edges {
+        edge(rt, sources, targets, e)?;
     }
-    say(unchanged(sources, edges));
-    say(unchanged(targets, edges));
+    say(rt, unchanged(sources, edges))?;
+    say(rt, unchanged(targets, edges))
 }
 
-fn judge(text: &[u8]) {
+fn judge(rt: &impl Print, text: &[u8]) -> io::Result<()> {
     let mut sources = [7u32; 8];
     let mut targets = [7u32; 9];
     match text::read(text, &mut sources, &mut targets) {
         Answer::Refused(k) => {
-            io::write_all(1, b"refused ");
-            number(wide(k), 10);
-            say(unchanged(&sources, 0));
-            say(unchanged(&targets, 0));
+            println!(rt; "refused {k}")?;
+            say(rt, unchanged(&sources, 0))?;
+            say(rt, unchanged(&targets, 0))
         }
-        Answer::Done { n, edges } => table(n, edges, &sources, &targets),
+        Answer::Done { n, edges } => table(rt, n, edges, &sources, &targets),
     }
 }
 
-fn one(i: usize) {
-    let mut path = io::buffer();
-    let length = os::arg(i, &mut path);
-    io::write_all(1, b"== ");
-    io::write_all(1, &path[..length]);
-    io::write_all(1, b"\n");
-    let fd = os::open_read(&path[..length]);
-    if fd < 0 {
-        io::write_all(1, b"no such file\n");
-        return;
-    }
-    let mut text = io::large_buffer();
-    let n = io::read_full(fd, &mut text);
-    libc::close(fd);
-    judge(&text[..n]);
+fn one<R: Files + Alloc + Print>(rt: &R, path: &str) -> io::Result<()> {
+    println!(rt; "== {path}")?;
+    let Ok(file) = File::open(rt, path) else {
+        return println!(rt; "no such file");
+    };
+    let mut text = Vec::new(rt.alloc());
+    file.take(MOST_BYTES).read_to_end(&mut text)?;
+    judge(rt, &text)
 }
 
-fn main() {
-    let n = os::arg_count();
-    let mut i: usize = 1;
-    while i < n {
-        one(i);
-        i += 1;
+fn main(rt: HostRuntime) -> io::Result<()> {
+    for path in env::args(&rt)?.skip(1) {
+        one(&rt, path.as_str())?;
     }
+    Ok(())
 }

@@ -1,38 +1,45 @@
 // Reads a text from standard input and writes its label file, or `refused N`.
-ghost use Rattle.io.specs.Counts.{IsPrefixLen};
+#![tactic(auto)]
+ghost use Rattle.std.specs.Prelude.{◌≡◌, ◌≤◌, length};
 
+use graph::limits;
 use labels::Answer;
+use std::io;
+use std::io::{Read, Write};
+
+const MOST_BYTES: usize = 65536;
 
 // The count of bytes at the front of the buffer; 0 if it has fewer.
 fn fitting(bytes: usize, buf: &[u8]) -> usize
-    ensures { IsPrefixLen result buf.now }
+    ensures within { result ≤ length buf.now }
+    ensures all { bytes ≤ length buf.now → result ≡ bytes }
 {
     if buf.len() < bytes {
         return 0;
     }
-    io::count(bytes as isize, buf)
+    bytes
 }
 
-fn refused(k: u32) {
-    io::write_all(1, b"refused ");
-    io::print_decimal(1, k as u64);
-    io::write_all(1, b"\n");
+fn refused(rt: &impl Print, k: u32) -> io::Result<()> {
+    println!(rt; "refused {k}")
 }
 
-fn main() {
-    let mut text = io::large_buffer();
-    let n = io::read_full(0, &mut text);
-    let mut more = [0u8; 1];
-    if io::read_full(0, &mut more) != 0 {
-        refused(16);
-        return;
-    }
-    let mut out = io::buffer();
-    match entry::label_text(&text[..n], &mut out) {
-        Answer::Refused(k) => refused(k),
+fn label(rt: &impl Print, text: &[u8]) -> io::Result<()> {
+    let mut out = [0u8; 4096];
+    match entry::label_text(text, &mut out) {
+        Answer::Refused(k) => refused(rt, k),
         Answer::Done { bytes } => {
             let k = fitting(bytes, &out);
-            io::write_all(1, &out[..k]);
+            io::writer(rt).write_all(&out[..k])
         }
     }
+}
+
+fn main(rt: HostRuntime) -> io::Result<()> {
+    let mut text = Vec::new(rt.alloc());
+    rt.reader().take(65537).read_to_end(&mut text)?;
+    if MOST_BYTES < text.len() {
+        return refused(&rt, limits::INPUT_TOO_LONG);
+    }
+    label(&rt, &text)
 }

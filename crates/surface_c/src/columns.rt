@@ -1,0 +1,88 @@
+// On label columns and certificates: the writer, the checker and the summary.
+ghost use Rattle.certificate.specs.Promise.{call as writing, lent, Promise as Certified};
+ghost use Rattle.checker.specs.Promise.{call as checking};
+ghost use Rattle.surface.specs.Check.{Checked};
+ghost use Rattle.surface.specs.Summary.{Summed};
+
+#[unsafe(no_mangle)]
+pub extern "C" fn tinoweala_write_certificate(
+    n: usize,
+    sources: &[u32],
+    targets: &[u32],
+    kinds: &[u8],
+    mask: u8,
+    label: &[u32],
+    rank: &mut [u32],
+    in_edge: &mut [u32],
+    in_distance: &mut [u32],
+    out_edge: &mut [u32],
+    out_distance: &mut [u32],
+    numbers: &mut [u32],
+    words: &mut [u64],
+) -> u32
+    ensures { Certified (writing n sources.now targets.now kinds.now mask label.now (lent rank.old in_edge.old in_distance.old out_edge.old out_distance.old numbers.old words.old)) result (lent rank.new in_edge.new in_distance.new out_edge.new out_distance.new numbers.new words.new) }
+{
+    surface::columns::tinoweala_write_certificate(
+        n,
+        sources,
+        targets,
+        kinds,
+        mask,
+        label,
+        rank,
+        in_edge,
+        in_distance,
+        out_edge,
+        out_distance,
+        numbers,
+        words,
+    )
+}
+
+#[unsafe(no_mangle)]
+pub extern "C" fn tinoweala_check_certificate(
+    n: usize,
+    sources: &[u32],
+    targets: &[u32],
+    kinds: &[u8],
+    mask: u8,
+    label: &[u32],
+    rank: &[u32],
+    in_edge: &[u32],
+    in_distance: &[u32],
+    out_edge: &[u32],
+    out_distance: &[u32],
+    check: &mut u32,
+    place: &mut usize,
+) -> u32
+    ensures { Checked (checking n sources.now targets.now kinds.now mask label.now rank.now in_edge.now in_distance.now out_edge.now out_distance.now) check.old place.old (result, check.new, place.new) }
+{
+    surface::columns::tinoweala_check_certificate(
+        n,
+        sources,
+        targets,
+        kinds,
+        mask,
+        label,
+        rank,
+        in_edge,
+        in_distance,
+        out_edge,
+        out_distance,
+        check,
+        place,
+    )
+}
+
+#[unsafe(no_mangle)]
+pub extern "C" fn tinoweala_summary(
+    n: usize,
+    label: &[u32],
+    own: &mut u32,
+    rings: &mut u32,
+    largest: &mut u32,
+) -> u32
+    ensures { Summed (record { n = n; label = label.now }) own.old rings.old largest.old (result, own.new, rings.new, largest.new) }
+{
+    surface::columns::tinoweala_summary(n, label, own, rings, largest)
+}
