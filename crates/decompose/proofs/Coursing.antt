@@ -46,7 +46,7 @@ drawn_sum true j k = refl
 drawn_sum false j k = refl
 
 module _ {g : Graph} {slicing q kind state state' : ℕ} {list list' : List ℕ} (e : Agree kind state state' list list') where
-  choices_agree : {own own' : ℕ → ℕ} {top k top' : ℕ} → Choices g slicing q kind state list own top k own' top' → Choices g slicing q kind state' list' own top k own' top'
+  choices_agree : {own : ℕ → ℕ} {top k : ℕ} {own' : ℕ → ℕ} {top' : ℕ} → Choices g slicing q kind state list own top k own' top' → Choices g slicing q kind state' list' own top k own' top'
   choices_agree unchosen = unchosen
   choices_agree (choice {k} p c x y) = choice p (choices_agree c) (record { whole = x.whole; member = x.member; exact = x.exact ∙ e _ _ k }) y
 
@@ -58,7 +58,7 @@ abbrev ChosenAt : Graph → (slicing q kind state : ℕ) → List ℕ → (ℕ �
 ChosenAt g slicing q kind state list ready top i =
     (own : ℕ → ℕ) × (t : ℕ) × (p : ℕ) × Choices g slicing q kind state list ready top i own t × Choice g own q kind (draws i state) list p
 
-choices_choice : {g : Graph} {slicing q kind state : ℕ} {list : List ℕ} {ready own : ℕ → ℕ} {top k t : ℕ} → Choices g slicing q kind state list ready top k own t
+choices_choice : {g : Graph} {slicing q kind state : ℕ} {list : List ℕ} {ready : ℕ → ℕ} {top : ℕ} {own : ℕ → ℕ} {k t : ℕ} → Choices g slicing q kind state list ready top k own t
     → (i : ℕ) → i < k → ChosenAt g slicing q kind state list ready top i
 choices_choice unchosen i l = absurd (not-suc-le-zero l)
 choices_choice {g} {slicing} {q} {kind} {state} {list} {ready} {top = top} (choice {k} {t} {own = own} p c x y) i l =

@@ -88,7 +88,7 @@ module _ {n : ℕ} {src tgt kinds : List ℕ} {method order : ℕ} {c : Chooser}
       }
 
 -- the drive may begin
-pub begun_drive : {n : ℕ} {src tgt kinds : List ℕ} {mask method order : ℕ} {c : Chooser} {list : List ℕ} {lab : ℕ} {num wor num' wor' : List ℕ} {s : Machine} {ys : List Part}
+pub begun_drive : {n : ℕ} {src tgt kinds : List ℕ} {mask method order : ℕ} {c : Chooser} {list : List ℕ} {lab : ℕ} {num wor num' wor' : List ℕ} {ys : List Part} {s : Machine}
     → Begun n src tgt kinds mask method order c list (length ys) lab num wor num' wor' s → DriveAsk (table n src tgt kinds mask) ys num' wor' s
 begun_drive (refused h) = record { ready = λ g. absurd (not-suc-le-zero g) }
 begun_drive (nothing z e) = record { ready = λ g. absurd (not-suc-le-zero g) }
@@ -258,7 +258,7 @@ ran_met {n} {src} {tgt} {kinds} {mask} {c = c} {num₂ = num₂} {lab₃ = lab�
       };
     }
 
-met : {n : ℕ} {src tgt kinds : List ℕ} {mask method order : ℕ} {c : Chooser} {list lab : List ℕ} {num wor num₁ wor₁ num₂ wor₂ : List ℕ} {s e : Machine} {ys ys₂ : List Part} {lab₃ num₃ wor₃ : List ℕ} {a : Answer}
+met : {n : ℕ} {src tgt kinds : List ℕ} {mask method order : ℕ} {c : Chooser} {list lab : List ℕ} {num wor num₁ wor₁ num₂ wor₂ : List ℕ} {ys : List Part} {s e : Machine} {ys₂ : List Part} {lab₃ num₃ wor₃ : List ℕ} {a : Answer}
     → Begun n src tgt kinds mask method order c list (length ys) (length lab) num wor num₁ wor₁ s → Ran (table n src tgt kinds mask) ys num₁ wor₁ s ys₂ num₂ wor₂ e → e.go ≡ 0
     → Ended n (length src) lab num₂ wor₂ e lab₃ num₃ wor₃ a → Promise (call n src tgt kinds mask method order c list ys lab num wor) (after e.chooser ys₂ lab₃ num₃ wor₃) a
 met {n} {src} {tgt} {kinds} {mask} {method} {order} {c} {lab = lab} {num = num} {wor = wor} {ys = ys} (refused h) (idle z) d f = refused_met (refusal_of n src tgt kinds method order c.kind (length lab) (length ys) (length num) (length wor)) refl h f

@@ -161,7 +161,7 @@ module _ (n b base lim : ℕ) (w₀ : List ℕ) where
           | no f ↦ rw (st.else (chains_at n b + u) (omega arith) (omega arith) (omega arith)) (let y = z.next u (omega arith) t in (
             y.0,
             ⊎_elim
-                (λ r. inl (
+                (λ (r : (nxt n b w u ≡ n) × ((x : ℕ) → u < x → x < i → own n b w₀ x ≡ own n b w₀ u → ⊥)). inl (
                   r.0,
                   λ g d v m. elim (ℕ_discrete g i) as (λ _. ⊥) [
                     | yes o ↦

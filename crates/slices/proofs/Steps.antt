@@ -29,7 +29,7 @@ module _ {g : Graph} {r : ℕ} where
   slicing_alike (goes v x t) o m = goes v x (goes_alike t o m)
   slicing_alike (cuts x t) o m = cuts x (slice_alike t o m)
 
-  pub slicing_then : {own₀ marks₀ own₁ marks₁ own₂ marks₂ : ℕ → ℕ} {s₀ s₁ s₂ : ℕ} → Slicing g r own₀ marks₀ s₀ own₁ marks₁ s₁ → Slicing g r own₁ marks₁ s₁ own₂ marks₂ s₂ → Slicing g r own₀ marks₀ s₀ own₂ marks₂ s₂
+  pub slicing_then : {own₀ marks₀ own₁ marks₁ : ℕ → ℕ} {s₀ s₁ : ℕ} {own₂ marks₂ : ℕ → ℕ} {s₂ : ℕ} → Slicing g r own₀ marks₀ s₀ own₁ marks₁ s₁ → Slicing g r own₁ marks₁ s₁ own₂ marks₂ s₂ → Slicing g r own₀ marks₀ s₀ own₂ marks₂ s₂
   slicing_then x (begins o m) = slicing_alike x o m
   slicing_then x (goes v y t) = goes v (slicing_then x y) t
   slicing_then x (cuts y t) = cuts (slicing_then x y) t

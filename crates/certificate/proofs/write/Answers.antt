@@ -1,3 +1,4 @@
+use Rattle.std.proofs.lemmas.Bool.{not_from_false, not_from_true}
 use Prim.Native.Nat.{ℕ}
 use Rattle.certificate.proofs.Writing.{refused_promise, work_ask, clear_ask, hand_ask, wrong_promise, done_promise}
 use native.Mathlib.Omega.{arith}
@@ -21,7 +22,7 @@ clear-requires c =
 pub returns-then-not-work : goal.returns-then-not-work
 returns-then-not-work c =
     let mask : ℕ = c.args.mask in
-    wrong_promise _ (c.refusal-k.ensures (mask)) c.if-k-ne0.false c.work.ensures c.if-not-work.true c.clear.ensures
+    wrong_promise _ (c.refusal-k.ensures (mask)) c.if-k-ne0.false c.work.ensures (not_from_false _ c.if-not-work.true) c.clear.ensures
 
 pub hand-requires : goal.hand-requires
 hand-requires c =
@@ -36,4 +37,4 @@ clear-requires-2 c =
 pub returns : goal.returns
 returns c =
     let mask : ℕ = c.args.mask in
-    done_promise _ (c.refusal-k.ensures (mask)) c.if-k-ne0.false c.work.ensures c.if-not-work.false c.hand.ensures c.clear-2.ensures
+    done_promise _ (c.refusal-k.ensures (mask)) c.if-k-ne0.false c.work.ensures (not_from_true _ c.if-not-work.false) c.hand.ensures c.clear-2.ensures

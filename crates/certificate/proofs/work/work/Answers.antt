@@ -1,3 +1,4 @@
+use Rattle.std.proofs.lemmas.Bool.{not_from_false, not_from_true}
 use Rattle.certificate.proofs.Working.{work_none, find_ask, work_stop, complete_ask, work_end}
 use Rattle.certificate.proofs.work.work.Goals as goal
 
@@ -14,7 +15,7 @@ pub shape_of-w-then-not-find : goal.shape_of-w-then-not-find
 shape_of-w-then-not-find c = (returns-then-not-find c).beyond.long
 
 pub complete-requires : goal.complete-requires
-complete-requires c = complete_ask c.requires c.own_labels.ensures c.if-not-own_labels.false c.find.ensures c.if-not-find.false
+complete-requires c = complete_ask c.requires c.own_labels.ensures (not_from_true _ c.if-not-own_labels.false) c.find.ensures (not_from_true _ c.if-not-find.false)
 
 pub returns : goal.returns
 returns c = search work_end
