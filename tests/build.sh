@@ -30,6 +30,14 @@ program() {
     (cd "crates/$1" && rt run) >"target/$1.say" 2>&1 </dev/null || { tail -n 5 "target/$1.say" && false; }
 }
 
+# Proves a program, and leaves what its check said in target/NAME.check, unless that is there and newer than all crates.
+checked() {
+    local said=target/$1.check
+    stale "$said" || return 0
+    mkdir -p target
+    (cd "crates/$1" && rt check) >"$said" 2>&1 </dev/null || { tail -n 5 "$said" && rm "$said" && false; }
+}
+
 # Compiles a source into an object.
 compile() {
     "$tools/bin/clang" --target=$machine -std=c99 -Wall -Wextra -Werror -O2 -fPIC -nostdinc -isystem tests/include -Iinclude -c "$1" -o "$2"
