@@ -1,4 +1,6 @@
 // The checker of a certificate: six columns against the edge table, by five checks.
+#![tactic(auto)]
+
 ghost use Rattle.std.specs.Prelude.{ℕ, ◌≡◌};
 ghost use Rattle.graph.specs.Graph.{table};
 ghost use Rattle.graph.specs.Checker.{verdict};

@@ -1,4 +1,6 @@
 // The labels in linear time on every table: one search along a path over the forward index, without recursion.
+#![tactic(auto)]
+
 ghost use Rattle.std.specs.Prelude.{ℕ, ◌≡◌};
 ghost use Rattle.graph.specs.Graph.{table};
 ghost use Rattle.linear.specs.Search.{FindAsk, Found};

@@ -1,4 +1,6 @@
 // The working memory: where its regions stand, and what fills, counts, copies, raises and clears them.
+#![tactic(auto)]
+
 ghost use Rattle.std.specs.Prelude.{◌+◌, ◌≤◌, ◌<◌, length};
 ghost use Rattle.memory.specs.Memory.{Filled, CountAsk, Put, Copied, Raised, Zeroed, ClearAsk, Cleared};
 

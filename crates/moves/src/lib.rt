@@ -1,4 +1,6 @@
 // What a step of the linear engine does in memory, without a graph: edges are passed, a vertex is stored, segments join and close.
+#![tactic(auto)]
+
 pub mod segments;
 pub mod stores;
 

@@ -1,5 +1,7 @@
 // The search core. It paints colours, which stand in w from b on, one a vertex; behind them stands the queue.
 // A map of colours, a to a2 and c to c2, says where a search may go: 'permitted' is 'the map changes this colour'.
+#![tactic(auto)]
+
 ghost use Rattle.std.specs.Prelude.{◌≡◌};
 ghost use Rattle.graph.specs.Arrows.{Some, Every};
 ghost use Rattle.graph.specs.Parts.{only};

@@ -1,4 +1,6 @@
 // The shortest path from u to v by counted edges, as edge numbers in walking order.
+#![tactic(auto)]
+
 ghost use Rattle.std.specs.Prelude.{◌≡◌};
 ghost use Rattle.paths.specs.Promise.{ask_refusal, Promise};
 

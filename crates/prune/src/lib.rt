@@ -1,4 +1,6 @@
 // Trimming a part: vertices that no edge of it enters, or none leaves, go, again and again.
+#![tactic(auto)]
+
 ghost use Rattle.graph.specs.Arrows.{SomeOf, EveryOf};
 ghost use Rattle.prune.specs.Trim.{TrimAsk, Trimmed};
 

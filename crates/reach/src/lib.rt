@@ -1,4 +1,6 @@
 // The public search: which permitted vertices are reached from permitted starts by chains of counted edges that stay permitted.
+#![tactic(auto)]
+
 ghost use Rattle.std.specs.Prelude.{ℕ, ◌≡◌};
 ghost use Rattle.reach.specs.Search.{search_refusal, Promise};
 

@@ -1,4 +1,6 @@
 // Vertex sets in 64-bit words, by shifts and masks: vertex v is bit v mod 64 of word v / 64.
+#![tactic(auto)]
+
 ghost use Rattle.std.specs.Prelude.{◌≡◌, ◌*◌, ◌<◌, ◌≤◌, length};
 ghost use Rattle.graph.specs.Limits.{words_of};
 ghost use Rattle.graph.specs.Numbers.{tally};

@@ -1,4 +1,6 @@
 // The summary of a label column: own labels, shared labels, and the largest number that share one.
+#![tactic(auto)]
+
 mod blocks;
 mod own;
 

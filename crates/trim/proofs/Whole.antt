@@ -11,7 +11,7 @@ use lib.Dec.{T, eqb, ltb, eqb→eq}
 use Rattle.graph.specs.Limits.{words_of, Enough}
 use Rattle.graph.specs.Graph.{Graph, rev, edges}
 use Rattle.graph.specs.Numbers.{tally, many, mark}
-use Rattle.graph.specs.Search.{part, trim, trimmed, core}
+use Rattle.graph.specs.Search.{trim, trimmed, core}
 use Rattle.graph.specs.Sets.{bit, members}
 use Rattle.memory.specs.Memory.{Zeroed, ClearAsk, Cleared}
 use Rattle.memory.proofs.Memory.{zeroed_after}

@@ -1,4 +1,6 @@
 // Trimming: what is left of a part when vertices that no counted edge of it enters, or none leaves, are taken away, again and again.
+#![tactic(auto)]
+
 ghost use Rattle.std.specs.Prelude.{ℕ, ◌≡◌};
 ghost use Rattle.trim.specs.Promise.{trim_refusal, Promise};
 

@@ -1,4 +1,3 @@
-use Prim.Native.Nat.{◌-◌}
 use native.Mathlib.Omega.{arith}
 use Rattle.graph.specs.Checker.{check5}
 use Rattle.checker.specs.Promise.{edge_verdict}

@@ -1,4 +1,3 @@
-use Prim.Native.Nat.{◌-◌}
 use native.Mathlib.Omega.{arith}
 use Rattle.checker.proofs.Laws.{edge_ask, edge_failed, edge_passed, edges_pass}
 use Rattle.checker.proofs.judge_edges.Goals as goal

@@ -1,4 +1,3 @@
-use Prim.Native.Nat.{◌-◌}
 use Rattle.memory.proofs.Memory.{raise_none, raise_set}
 use Rattle.memory.proofs.raise.Goals as goal
 

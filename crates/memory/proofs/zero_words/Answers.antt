@@ -1,5 +1,5 @@
 use mathlib.Core.Path.{◌≡◌, refl}
-use Prim.Native.Nat.{◌+◌, ◌-◌}
+use Prim.Native.Nat.{◌+◌}
 use native.Mathlib.Omega.{arith}
 use Rattle.memory.proofs.Memory.{put_none, put_step, filled_zeroed}
 use Rattle.memory.proofs.zero_words.Goals as goal

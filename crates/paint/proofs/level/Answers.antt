@@ -1,5 +1,4 @@
 use mathlib.Core.Path.{◌≡◌}
-use Prim.Native.Nat.{◌-◌}
 use native.Mathlib.Omega.{arith}
 use Rattle.graph.specs.Arrows.{on}
 use Rattle.paint.proofs.Levels.{Turn, level_none, turn, turn_ask, turn_step}

@@ -1,5 +1,4 @@
 use mathlib.Core.Path.{◌≡◌}
-use Prim.Native.Nat.{◌-◌}
 use native.Mathlib.Omega.{arith}
 use Rattle.paint.proofs.Levels.{scan_none, other_lt, scan_ask, scan_step}
 use Rattle.paint.proofs.scan.Goals as goal

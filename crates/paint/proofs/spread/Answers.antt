@@ -1,5 +1,4 @@
 use mathlib.Core.Path.{◌≡◌}
-use Prim.Native.Nat.{◌-◌}
 use native.Mathlib.Omega.{arith}
 use Rattle.paint.proofs.Spreading.{spread_none, spread_few, spread_ask, spread_step, spread_room}
 use Rattle.paint.proofs.spread.Goals as goal

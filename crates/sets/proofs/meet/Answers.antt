@@ -1,4 +1,3 @@
-use Prim.Native.Nat.{◌-◌}
 use native.Mathlib.Omega.{arith}
 use lib.Bits.{and_zero_l}
 use Rattle.sets.proofs.Zip.{zip_none, zip_more, zip_all}

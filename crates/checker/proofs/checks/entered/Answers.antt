@@ -1,6 +1,6 @@
 use native.Mathlib.Omega.{arith}
 use borrow.Author.Tests.{eq-eqb, ne_eqb}
-use Rattle.graph.specs.Checker.{check3, entry}
+use Rattle.graph.specs.Checker.{check3}
 use Rattle.checker.proofs.checks.entered.Goals as goal
 
 pub overflow_cast-l : goal.overflow_cast-l

@@ -1,5 +1,4 @@
 use mathlib.Core.Path.{◌≡◌}
-use Prim.Native.Nat.{◌-◌}
 use native.Mathlib.Omega.{arith}
 use Rattle.linear.proofs.Roots.{roots_none, roots_ask, roots_step, roots_few, roots_end}
 use Rattle.linear.proofs.search.roots.Goals as goal

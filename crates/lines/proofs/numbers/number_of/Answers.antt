@@ -1,4 +1,4 @@
-use Prim.Native.Nat.{◌<◌, ◌-◌}
+use Prim.Native.Nat.{◌<◌}
 use native.Mathlib.Omega.{arith}
 use Rattle.lines.proofs.Words.{number_none, number_long, digits_none, digits_end, digits_room, digits_low, digits_high, digits_step}
 use Rattle.lines.proofs.numbers.number_of.Goals as goal

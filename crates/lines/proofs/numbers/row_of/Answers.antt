@@ -1,4 +1,3 @@
-use Prim.Native.Nat.{◌-◌}
 use Rattle.lines.proofs.Rows.{upto_none, upto_few, upto_end, upto_stop, upto_step, row_long}
 use Rattle.lines.proofs.Split.{piece_order, piece_ends, piece_less}
 use Rattle.lines.proofs.numbers.row_of.Goals as goal

@@ -1,5 +1,4 @@
 use mathlib.Core.Path.{refl}
-use Prim.Native.Nat.{◌-◌}
 use native.Mathlib.Omega.{arith}
 use Rattle.lines.proofs.Split.{run_step, run_stop, run_none}
 use Rattle.lines.proofs.pieces.end_of.Goals as goal

@@ -1,4 +1,3 @@
-use Prim.Native.Nat.{◌-◌}
 use native.Mathlib.Omega.{arith}
 use Rattle.moves.proofs.Painting.{lowest_one, lowest_step, lowest_all}
 use Rattle.moves.proofs.segments.lowest.Goals as goal

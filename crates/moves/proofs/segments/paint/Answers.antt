@@ -1,4 +1,3 @@
-use Prim.Native.Nat.{◌-◌}
 use native.Mathlib.Omega.{arith}
 use Rattle.moves.proofs.Painting.{paint_none, paint_fits, paint_step, paint_all}
 use Rattle.moves.proofs.segments.paint.Goals as goal

@@ -1,4 +1,3 @@
-use Prim.Native.Nat.{◌-◌}
 use Rattle.paint.proofs.Nearness.{rounds_none, rounds_ask, rounds_step, rounds_all}
 use Rattle.paint.proofs.distances.rounds.Goals as goal
 

@@ -23,5 +23,5 @@ pub returns : goal.returns
 returns c =
     let whole : Graph = table c.args.n c.args.sources.now c.args.targets.now c.args.kinds.now c.args.mask in
     let all : Prepared (whole) c.args.u c.args.w.now c.measure.new.w = let x = indexed c.args.mask c.requires c.one.ensures c.numbers.ensures in
-        find_all c.requires x c.fill.ensures (c.measure.ensures (arrows (whole)) (measure_ask c.requires x c.fill.ensures)) in
+    find_all c.requires x c.fill.ensures (c.measure.ensures (arrows (whole)) (measure_ask c.requires x c.fill.ensures)) in
     all

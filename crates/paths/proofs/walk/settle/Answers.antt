@@ -21,10 +21,10 @@ returns-then-room-d c =
 
 pub back-requires : goal.back-requires
 back-requires c =
-    let ask : ( EveryFrom c.args.n c.args.sources.now (λ g u. SettleAsk g u c.args.v c.args.w.now → WalkAsk g u c.args.v (col (base g) c.args.w.now c.args.v) c.args.w.now c.args.room.now)) = λ a u q. record { known = q.known; vertex = q.vertex; is = near_is q c.if-n-d.false; low = c.if-n-d.false; fits = c.if-room-d.false } in
+    let ask : (EveryFrom c.args.n c.args.sources.now (λ g u. SettleAsk g u c.args.v c.args.w.now → WalkAsk g u c.args.v (col (base g) c.args.w.now c.args.v) c.args.w.now c.args.room.now)) = λ a u q. record { known = q.known; vertex = q.vertex; is = near_is q c.if-n-d.false; low = c.if-n-d.false; fits = c.if-room-d.false } in
     let s = c.requires in (s.0, s.1, ask s.0 s.1 s.2)
 
 pub returns : goal.returns
 returns c =
-    let ask : ( EveryFrom c.args.n c.args.sources.now (λ g u. SettleAsk g u c.args.v c.args.w.now → WalkAsk g u c.args.v (col (base g) c.args.w.now c.args.v) c.args.w.now c.args.room.now)) = λ a u q. record { known = q.known; vertex = q.vertex; is = near_is q c.if-n-d.false; low = c.if-n-d.false; fits = c.if-room-d.false } in
+    let ask : (EveryFrom c.args.n c.args.sources.now (λ g u. SettleAsk g u c.args.v c.args.w.now → WalkAsk g u c.args.v (col (base g) c.args.w.now c.args.v) c.args.w.now c.args.room.now)) = λ a u q. record { known = q.known; vertex = q.vertex; is = near_is q c.if-n-d.false; low = c.if-n-d.false; fits = c.if-room-d.false } in
     λ g u q. let a = ask g u q in record { is = sym a.is; low = a.low; fits = a.fits; walked = c.back.ensures g u a }

@@ -1,5 +1,4 @@
 use mathlib.Core.Path.{◌≡◌}
-use Prim.Native.Nat.{◌-◌}
 use native.Mathlib.Omega.{arith}
 use Rattle.prune.proofs.Rounds.{around_none, around_low, around_ask, around_step}
 use Rattle.prune.proofs.queue.around.Goals as goal

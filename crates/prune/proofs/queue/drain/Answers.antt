@@ -1,4 +1,3 @@
-use Prim.Native.Nat.{◌-◌}
 use native.Mathlib.Omega.{arith}
 use Rattle.prune.proofs.Steps.{pruned_none, pruned_more}
 use Rattle.prune.proofs.Rounds.{drain_beside, drain_step, drain_end}

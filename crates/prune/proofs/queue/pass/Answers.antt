@@ -1,4 +1,3 @@
-use Prim.Native.Nat.{◌-◌}
 use native.Mathlib.Omega.{arith}
 use Rattle.prune.proofs.Along.{along_head, along_next}
 use Rattle.prune.proofs.Steps.{pruned_none, pruned_more}

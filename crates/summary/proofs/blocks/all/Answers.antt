@@ -1,5 +1,4 @@
 use native.Mathlib.Omega.{arith}
-use Prim.Native.Nat.{◌-◌}
 use Rattle.summary.proofs.Counting.{folded_none, folded_join, folded_all, folded_few}
 use Rattle.summary.proofs.blocks.all.Goals as goal
 

@@ -1,5 +1,4 @@
 use native.Mathlib.Omega.{arith}
-use Prim.Native.Nat.{◌-◌}
 use mathlib.Core.Path.{refl}
 use Rattle.summary.proofs.Counting.{upto_none, upto_step, upto_low, upto_all}
 use borrow.Author.Rules.{rules}

@@ -1,5 +1,4 @@
 use native.Mathlib.Omega.{arith}
-use Prim.Native.Nat.{◌-◌}
 use Rattle.summary.proofs.Counting.{folded_none, folded_step, folded_all, folded_room}
 use Rattle.summary.proofs.blocks.fold.Goals as goal
 

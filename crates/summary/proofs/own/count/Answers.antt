@@ -1,5 +1,4 @@
 use native.Mathlib.Omega.{arith}
-use Prim.Native.Nat.{◌-◌}
 use mathlib.Core.Path.{refl}
 use Rattle.graph.specs.Numbers.{many}
 use Rattle.summary.proofs.Counting.{many_room, many_step, many_all}

@@ -1,5 +1,4 @@
 use mathlib.Core.Path.{◌≡◌}
-use Prim.Native.Nat.{◌-◌}
 use native.Mathlib.Omega.{arith}
 use Rattle.trim.proofs.Between.{collected_none, collected_more}
 use Rattle.trim.proofs.stages.collect.Goals as goal

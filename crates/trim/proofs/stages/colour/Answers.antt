@@ -1,5 +1,5 @@
 use mathlib.Core.Path.{◌≡◌}
-use Prim.Native.Nat.{◌<◌, ◌-◌}
+use Prim.Native.Nat.{◌<◌}
 use native.Mathlib.Omega.{arith}
 use Rattle.graph.specs.Sets.{bit}
 use Rattle.sets.proofs.Store.{bit_lt}
@@ -11,12 +11,12 @@ loop-v-init c = (omega arith, coloured_none)
 
 pub overflow_cast-w-in-loop-v : goal.overflow_cast-w-in-loop-v
 overflow_cast-w-in-loop-v c =
-    let one : ( bit c.args.part.now c.loop-v.v < 2) = bit_lt c.args.part.now c.loop-v.v in
+    let one : (bit c.args.part.now c.loop-v.v < 2) = bit_lt c.args.part.now c.loop-v.v in
     omega (arith, one)
 
 pub overflow_sub-w : goal.overflow_sub-w
 overflow_sub-w c =
-    let one : ( bit c.args.part.now c.loop-v.v < 2) = bit_lt c.args.part.now c.loop-v.v in
+    let one : (bit c.args.part.now c.loop-v.v < 2) = bit_lt c.args.part.now c.loop-v.v in
     omega (arith, one)
 
 pub loop-v-preserved : goal.loop-v-preserved

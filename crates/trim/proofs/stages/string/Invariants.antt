@@ -1,4 +1,4 @@
-use Prim.Native.Nat.{◌≤◌, ◌-◌}
+use Prim.Native.Nat.{◌≤◌}
 use Rattle.trim.specs.Stages.{StringAsk, Strung}
 use Rattle.trim.proofs.stages.string.Given as goal
 
