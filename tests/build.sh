@@ -1,29 +1,41 @@
 # To be sourced from the project's folder: builds C programs against the static libraries, and runs them.
-# It needs the Rattle kit alone: the kit's clang, linker and, where the machine is not x86-64, emulator; tests/include stands in for C's own headers.
+# It needs the Rattle kit alone, which is for x86-64: the kit's clang, linker and C library; tests/include stands in for C's own headers.
 command -v rt >/dev/null || { echo "rt, the command of the Rattle kit, is not on the PATH"; exit 1; }
-kit=$(dirname "$(dirname "$(rt doc)")")/on/$(uname -m)
+kit=$(dirname "$(rt doc)")
 tools=$kit/toolchain
 machine=x86_64-unknown-linux-gnu
 archives=()
 
-# Proves a library and writes its archive, unless one is there that is newer than all crates.
+# Whether a file that was made is missing, or older than crates.txt or a crate; what rt makes in crates/*/out does not count.
+stale() { [ ! -f "$1" ] || [ -n "$(find crates.txt -newer "$1")" ] || [ -n "$(find crates -mindepth 2 -path 'crates/*/out' -prune -o -newer "$1" -print -quit)" ]; }
+
+# Proves a library and writes its archive, unless one is there that is newer than all crates. The archive is of the thin crate NAME_c above the crate NAME.
 library() {
     local archive=target/staticlib/lib$1.a
     archives+=("$archive")
-    [ -f "$archive" ] && [ -z "$(find crates crates.txt -newer "$archive" -print -quit)" ] && return
+    stale "$archive" || return 0
     rm -f "$archive"
-    mkdir -p target
-    rt staticlib "$1" >"target/$1.say" 2>&1 || tail -n 5 "target/$1.say"
+    mkdir -p target/staticlib
+    (cd "crates/$1_c" && rt lib) >"target/$1.say" 2>&1 </dev/null || { tail -n 5 "target/$1.say" && return; }
     # an archive assumes nothing of any function of C
-    ! grep '^logic=proved .* axioms=' "target/$1.say" || rm -f "$archive"
+    ! grep '^logic=proved .* axioms=' "target/$1.say" || return 0
+    cp "crates/$1_c/out/lib$1_c.a" "$archive"
 }
 
-# Proves a program and builds it, unless it is there and newer than all crates.
+# Proves a program and builds it, unless it is there and newer than all crates, as after `rt ci`. `rt run` alone builds one, and runs it.
 program() {
-    local built=target/bin/$1
-    [ -f "$built" ] && [ -z "$(find crates crates.txt -newer "$built" -print -quit)" ] && return
+    local built=crates/$1/out/$1
+    stale "$built" || return 0
     mkdir -p target
-    rt check "$1" >"target/$1.say" 2>&1 || { tail -n 5 "target/$1.say" && false; }
+    (cd "crates/$1" && rt run) >"target/$1.say" 2>&1 </dev/null || { tail -n 5 "target/$1.say" && false; }
+}
+
+# Proves a program, and leaves what its check said in target/NAME.check, unless that is there and newer than all crates.
+checked() {
+    local said=target/$1.check
+    stale "$said" || return 0
+    mkdir -p target
+    (cd "crates/$1" && rt check) >"$said" 2>&1 </dev/null || { tail -n 5 "$said" && rm "$said" && false; }
 }
 
 # Compiles a source into an object.
@@ -39,8 +51,4 @@ link() {
 }
 
 # Runs a program with its arguments.
-run() {
-    local emulator=()
-    [ "$(uname -m)" = x86_64 ] || emulator=("$tools/bin/qemu-x86_64")
-    "${emulator[@]}" "$tools/lib/ld-linux-x86-64.so.2" --library-path "$tools/lib" "$@"
-}
+run() { "$tools/lib/ld-linux-x86-64.so.2" --library-path "$tools/lib" "$@"; }
