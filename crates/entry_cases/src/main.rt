@@ -1,5 +1,6 @@
 // Calls the entry on each text that its arguments name and writes the label file, or the number of the refusal.
 #![tactic(auto)]
+
 ghost use Rattle.std.specs.Prelude.{◌≡◌, ◌≤◌, length};
 
 use labels::Answer;

@@ -1,5 +1,6 @@
 // Reads a text from standard input and writes its label file, or `refused N`.
 #![tactic(auto)]
+
 ghost use Rattle.std.specs.Prelude.{◌≡◌, ◌≤◌, length};
 
 use graph::limits;
