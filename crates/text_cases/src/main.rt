@@ -1,14 +1,28 @@
 // Reads each text that its arguments name and writes what the reader makes of it: the table, or the refusal number.
 #![tactic(auto)]
 
+ghost use Rattle.std.specs.Prelude.{◌≤◌, length, IfOk};
+
 use std::fs::File;
 use std::io::Read;
 use std::rt::Files;
 use std::{env, io};
 use text::Answer;
 
-// Of a longer text the front is read.
-const MOST_BYTES: u64 = 65536;
+// Fills the front of the buffer from a reader, and the whole if there is enough. The count of bytes read.
+fn read_full<R: Read>(reader: &mut R, buf: &mut [u8]) -> io::Result<usize>
+    ensures { IfOk result (λ n. n ≤ length buf.new) }
+{
+    let mut at = 0;
+    while at < buf.len() {
+        let n = reader.read(&mut buf[at..])?;
+        if n == 0 {
+            return Ok(at);
+        }
+        at += n;
+    }
+    Ok(at)
+}
 
 // Are all places from `from` on still what they were at the start?
 fn unchanged(xs: &[u32], from: usize) -> bool {
@@ -67,14 +81,15 @@ fn judge(rt: &impl Print, text: &[u8]) -> io::Result<()> {
     }
 }
 
-fn one<R: Files + Alloc + Print>(rt: &R, path: &str) -> io::Result<()> {
+// Of a longer text the front is read.
+fn one<R: Files + Print>(rt: &R, path: &str) -> io::Result<()> {
     println!(rt; "== {path}")?;
-    let Ok(file) = File::open(rt, path) else {
+    let Ok(mut file) = File::open(rt, path) else {
         return println!(rt; "no such file");
     };
-    let mut text = Vec::new(rt.alloc());
-    file.take(MOST_BYTES).read_to_end(&mut text)?;
-    judge(rt, &text)
+    let mut text = [0u8; 65536];
+    let n = read_full(&mut file, &mut text)?;
+    judge(rt, &text[..n])
 }
 
 fn main(rt: HostRuntime) -> io::Result<()> {

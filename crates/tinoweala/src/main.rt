@@ -1,7 +1,7 @@
 // Reads a text from standard input and writes its label file, or `refused N`.
 #![tactic(auto)]
 
-ghost use Rattle.std.specs.Prelude.{◌≡◌, ◌≤◌, length};
+ghost use Rattle.std.specs.Prelude.{◌≡◌, ◌≤◌, length, IfOk};
 
 use graph::limits;
 use labels::Answer;
@@ -21,6 +21,21 @@ fn fitting(bytes: usize, buf: &[u8]) -> usize
     bytes
 }
 
+// Fills the front of the buffer from a reader, and the whole if there is enough. The count of bytes read.
+fn read_full<R: Read>(reader: &mut R, buf: &mut [u8]) -> io::Result<usize>
+    ensures { IfOk result (λ n. n ≤ length buf.new) }
+{
+    let mut at = 0;
+    while at < buf.len() {
+        let n = reader.read(&mut buf[at..])?;
+        if n == 0 {
+            return Ok(at);
+        }
+        at += n;
+    }
+    Ok(at)
+}
+
 fn refused(rt: &impl Print, k: u32) -> io::Result<()> {
     println!(rt; "refused {k}")
 }
@@ -37,10 +52,10 @@ fn label(rt: &impl Print, text: &[u8]) -> io::Result<()> {
 }
 
 fn main(rt: HostRuntime) -> io::Result<()> {
-    let mut text = Vec::new(rt.alloc());
-    rt.reader().take(65537).read_to_end(&mut text)?;
-    if MOST_BYTES < text.len() {
+    let mut text = [0u8; 65537];
+    let n = read_full(&mut rt.reader(), &mut text)?;
+    if MOST_BYTES < n {
         return refused(&rt, limits::INPUT_TOO_LONG);
     }
-    label(&rt, &text)
+    label(&rt, &text[..n])
 }
