@@ -29,9 +29,37 @@ use Rattle.entry.specs.Steps.{LabelAsk}
 moved : {A : Type 0} (f : ℕ → List ℕ → List ℕ → A) {n n' : ℕ} {a a' b b' : List ℕ} → n ≡ n' → a ≡ a' → b ≡ b' → f n a b ≡ f n' a' b'
 moved f p q r = rw (p, q, r)
 
+-- a table that was read within v vertices, and the fronts of the two columns
+module _ (v : ℕ) (text room₁ room₂ : List ℕ) where
+  abbrev call_of : Call
+  call_of = record { text = text; most_vertices = v; most_edges = 4096; sources = room₁; targets = room₂ }
+
+  module _ (r : Read) (s t : List ℕ) (p : Promise call_of r s t) (n m : ℕ) (e : r ≡ ReadDone n m) where
+    told : IsDone (reading call_of) n m
+    told = done_is (reading call_of) n m (sym e ∙ p.answers)
+
+    front : (f : Arrow → ℕ) (xs ys : List ℕ) → ys ≡ after f (reading call_of) xs → take m ys ≡ map f told.table.edges
+    unfolding after
+    front f xs ys q = rw (q, told.is) (take_at (map f told.table.edges) (drop (length told.table.edges) xs) m (length-map told.table.edges f ∙ sym told.count))
+
+    taken : (f : Arrow → ℕ) (xs ys : List ℕ) → ys ≡ after f (reading call_of) xs → m ≡ length (take m ys)
+    taken f xs ys q = omega (arith, ap length (front f xs ys q), length-map told.table.edges f, told.count)
+
+    pub sources_taken : m ≡ length (take m s)
+    sources_taken = taken (λ a. a.source) room₁ s p.sources_afterwards
+
+    pub targets_taken : m ≡ length (take m t)
+    targets_taken = taken (λ a. a.target) room₂ t p.targets_afterwards
+
+    pub sources_room : m ≤ length s
+    sources_room = omega (arith, sources_taken, length-take m s)
+
+    pub targets_room : m ≤ length t
+    targets_room = omega (arith, targets_taken, length-take m t)
+
 module _ (text room₁ room₂ : List ℕ) where
   abbrev call : Call
-  call = record { text = text; most_vertices = 512; most_edges = 4096; sources = room₁; targets = room₂ }
+  call = call_of 512 text room₁ room₂
 
   module _ (r : Read) (s t : List ℕ) (p : Promise call r s t) (long₁ : 4096 ≡ length room₁) (long₂ : 4096 ≡ length room₂) where
     reading_is : reading call ≡ market entry_limits text
@@ -43,45 +71,30 @@ module _ (text room₁ room₂ : List ℕ) where
         let q : market entry_limits text ≡ refused k = sym reading_is ∙ refused_is (reading call) k (sym e ∙ p.answers) in
         record { answers = rw q; out_after = rw q }
 
-    -- the table that was read, and the fronts of the two columns
     module _ (n m : ℕ) (e : r ≡ ReadDone n m) where
-      told : IsDone (reading call) n m
-      told = done_is (reading call) n m (sym e ∙ p.answers)
+      abbrev its : IsDone (reading call) n m
+      its = told 512 text room₁ room₂ r s t p n m e
 
       abbrev table : Table
-      table = told.table
+      table = its.table
 
       sound : Sound entry_limits table
-      sound = market_sound entry_limits text table (sym reading_is ∙ told.is)
-
-      front : (f : Arrow → ℕ) (xs ys : List ℕ) → ys ≡ after f (reading call) xs → take m ys ≡ map f table.edges
-      unfolding after
-      front f xs ys q = rw (q, told.is) (take_at (map f table.edges) (drop (length table.edges) xs) m (length-map table.edges f ∙ sym told.count))
-
-      taken : (f : Arrow → ℕ) (xs ys : List ℕ) → ys ≡ after f (reading call) xs → m ≡ length (take m ys)
-      taken f xs ys q = omega (arith, ap length (front f xs ys q), length-map table.edges f, told.count)
-
-      pub sources_taken : m ≡ length (take m s)
-      sources_taken = taken (λ a. a.source) room₁ s p.sources_afterwards
-
-      pub targets_taken : m ≡ length (take m t)
-      targets_taken = taken (λ a. a.target) room₂ t p.targets_afterwards
-
-      pub sources_room : m ≤ length s
-      sources_room = omega (arith, sources_taken, length-take m s)
-
-      pub targets_room : m ≤ length t
-      targets_room = omega (arith, targets_taken, length-take m t)
+      sound = market_sound entry_limits text table (sym reading_is ∙ its.is)
 
       same : {A : Type 0} (f : ℕ → List ℕ → List ℕ → A) → f n (take m s) (take m t) ≡ f table.n (map (λ a. a.source) table.edges) (map (λ a. a.target) table.edges)
-      same f = moved f told.vertices (front (λ a. a.source) room₁ s p.sources_afterwards) (front (λ a. a.target) room₂ t p.targets_afterwards)
+      same f =
+          moved
+          f
+          its.vertices
+          (front 512 text room₁ room₂ r s t p n m e (λ a. a.source) room₁ s p.sources_afterwards)
+          (front 512 text room₁ room₂ r s t p n m e (λ a. a.target) room₂ t p.targets_afterwards)
 
       pub read_ask : LabelAsk n (take m s) (take m t) (labels (graph n (take m s) (take m t)))
       read_ask =
           record {
             passed = same plain_refusal ∙ sound_passed entry_limits table (omega arith) (omega arith) sound;
-            vertices = omega (arith, told.vertices, sound.vertices);
-            edges = omega (arith, sources_taken, told.count, sound.few);
+            vertices = omega (arith, its.vertices, sound.vertices);
+            edges = omega (arith, sources_taken 512 text room₁ room₂ r s t p n m e, its.count, sound.few);
             long = labels_size (graph n (take m s) (take m t));
           }
 
@@ -97,7 +110,7 @@ module _ (text room₁ room₂ : List ℕ) where
           few = omega (arith, read_ask.long, read_ask.vertices)
 
           q : file_of (market entry_limits text) ≡ done (label_file label)
-          q = rw (← reading_is, told.is, same graph)
+          q = rw (← reading_is, its.is, same graph)
 
           go : (t : Bool) → ltb (length out) (length (label_file label)) ≡ t → Answered text out a out'
           go true h = record { answers = w.answers ∙ rw (le-ltb _ _ few, q, h); out_after = w.out_after ∙ rw (le-ltb _ _ few, q, h) }

@@ -1,7 +1,8 @@
+use Rattle.std.proofs.Common.{ℕ, List, ◌≤◌, ◌+◌, get_or, Fits, w64}
 use mathlib.Core.Path.{◌≡◌}
 use native.Mathlib.Omega.{arith}
 use lib.ListN.{length}
-use lib.Count.{ones-le}
+use lib.Count.{ones, ones-le}
 use Rattle.graph.specs.Numbers.{tally}
 use Rattle.sets.proofs.Sizes.{word_tally}
 use Rattle.sets.proofs.size.Goals as goal
@@ -16,11 +17,18 @@ offset_bounds-w-i c = omega arith
 pub bounds-w-i : goal.bounds-w-i
 bounds-w-i c = omega arith
 
+-- a word counts at most 64
+count_fits : (w : List ℕ) (i : ℕ) → Fits w64 (get_or w i 0) → Fits w64 (ones (get_or w i 0))
+count_fits w i f = omega (arith, ones-le 64 _ f.fits)
+
+add_fits : (w : List ℕ) (i s : ℕ) → s ≤ 65536 → Fits w64 (get_or w i 0) → Fits w64 (s + ones (get_or w i 0))
+add_fits w i s l f = omega (arith, ones-le 64 _ f.fits)
+
 pub overflow_cast-s : goal.overflow_cast-s
-overflow_cast-s c = omega (arith, ones-le 64 _ (c.shared_slice_known-1.given c.loop-i.i).fits)
+overflow_cast-s c = count_fits c.args.w.now _ (c.type_inv.w _)
 
 pub overflow_add-s : goal.overflow_add-s
-overflow_add-s c = omega (arith, ones-le 64 _ (c.shared_slice_known-1.given c.loop-i.i).fits)
+overflow_add-s c = add_fits c.args.w.now _ _ (omega arith) (c.type_inv.w _)
 
 pub overflow_add-i : goal.overflow_add-i
 overflow_add-i c = omega arith
