@@ -4,7 +4,7 @@ use Rattle.linear.proofs.Roots.{find_ask, find_begun, find_end}
 use Rattle.linear.proofs.find.Goals as goal
 
 pub one-requires : goal.one-requires
-one-requires c = find_ask c.requires
+one-requires c = let p = find_ask c.requires in record { kinded = p.kinded; column = p.column; even = p.even; room = p.room }
 
 pub roots-requires : goal.roots-requires
 roots-requires c =

@@ -9,7 +9,7 @@ pub one-requires : goal.one-requires
 one-requires c = one_ask c.requires
 
 pub numbers-requires : goal.numbers-requires
-numbers-requires c = numbers_ask c.args.mask c.requires c.one.ensures
+numbers-requires c = let p = numbers_ask c.args.mask c.requires c.one.ensures in record { kinded = p.kinded; column = p.column; even = p.even; long = p.long }
 
 pub fill-requires : goal.fill-requires
 fill-requires c = fill_room c.requires (indexed c.args.mask c.requires c.one.ensures c.numbers.ensures)
