@@ -43,6 +43,9 @@ full_has kind h = elim (t_dec (in_mask full_mask kind)) as (λ _. in_mask full_m
   | no o ↦ absurd ((some_below_iff most_kinds (λ k. not (in_mask full_mask k))).1 (kind, h, not_T (in_mask full_mask kind) o))
 ]
 
+pub full_has_of : {mask : ℕ} (kind : ℕ) → kind < most_kinds → mask ≡ full_mask → in_mask mask kind ≡ true
+full_has_of kind h e = rw e (full_has kind h)
+
 pub full_counts : {mask : ℕ} (kind : ℕ) → kind < most_kinds → mask ≡ full_mask → ◌≡◌ {A = ℕ} 1 (cond (in_mask mask kind) 1 0)
 full_counts kind h e = rw (e, full_has kind h)
 

@@ -12,3 +12,5 @@ pub mod Pivot
 pub mod Apart
 pub mod Summary
 pub mod Refusal
+pub mod Reasons
+pub mod Table

@@ -7,6 +7,7 @@ ghost use Rattle.memory.specs.Memory.{Filled, CountAsk, Put, Copied, Raised, Zer
 use graph::limits;
 
 pub mod decomposer;
+pub mod layout;
 pub mod writer;
 
 // The n places from a on become x.
