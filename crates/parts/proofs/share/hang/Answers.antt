@@ -6,7 +6,7 @@ use lib.ListN.{get_or}
 use Rattle.parts.proofs.share.hang.Goals as goal
 
 pub overflow_cast-c : goal.overflow_cast-c
-overflow_cast-c c = omega (arith, c.slice_known-3-1.given (c.args.b + get_or c.args.w.now (c.args.b + 9 * c.args.n + 2 + c.args.i) 0))
+overflow_cast-c c = omega (arith, c.type_inv.w (c.args.at.base + get_or c.args.w.now (c.args.at.base + 9 * c.args.at.n + 2 + c.args.i) 0))
 
 pub returns-then-c-n : goal.returns-then-c-n
 returns-then-c-n c = inl (c.if-c-n.true, refl, refl)

@@ -8,7 +8,7 @@ pub loop-i-init : goal.loop-i-init
 loop-i-init c = (omega (arith, c.requires.first.low), λ a t. refl, share_start c.requires)
 
 pub overflow_cast-y : goal.overflow_cast-y
-overflow_cast-y c = omega (arith, c.slice_known-in-loop-i-1.given (c.args.b + 2 * c.args.n + c.loop-i.i))
+overflow_cast-y c = omega (arith, c.type_inv.w (c.args.at.base + 2 * c.args.at.n + c.loop-i.i))
 
 pub hang-k-requires : goal.hang-k-requires
 hang-k-requires c =
@@ -33,4 +33,4 @@ pub shape_of-w : goal.shape_of-w
 shape_of-w c = c.loop-i.invariant.2.long
 
 pub returns : goal.returns
-returns c = let e : c.loop-i.i ≡ c.args.n = omega arith in rw e at c.loop-i.invariant.2
+returns c = let e : c.loop-i.i ≡ c.args.at.n = omega arith in rw e at c.loop-i.invariant.2

@@ -1,5 +1,4 @@
-use Rattle.std.proofs.Common.{◌<◌, refl, inl, inr, arith}
-use Rattle.memory.specs.Decomposer.{ord}
+use Rattle.std.proofs.Common.{refl, inl, inr, arith}
 use Rattle.sweep.proofs.chain.turn.Goals as goal
 
 pub overflow_cast-p : goal.overflow_cast-p

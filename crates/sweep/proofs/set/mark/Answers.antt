@@ -1,5 +1,4 @@
 use native.Mathlib.Omega.{arith}
-use Prim.Native.Nat.{◌+◌, ◌*◌}
 use Rattle.sweep.proofs.Marking.{mark_none, mark_next, enter_ask, mark_step, mark_all}
 use Rattle.sweep.proofs.set.mark.Goals as goal
 
