@@ -1,7 +1,7 @@
 -- The loops that find a component's lowest vertex and give it to all of it.
-use Prim.Native.Nat.{ℕ, ◌+◌, ◌≤◌, ◌<◌}
+use Prim.Native.Nat.{ℕ, ◌+◌, ◌≤◌, ◌<◌, min}
 use native.Mathlib.Omega.{arith}
-use native.Mathlib.Decide.{ℕ_discrete}
+use native.Mathlib.Decide.{ℕ_discrete, dec_lt}
 use mathlib.Core.Path.{◌≡◌, refl, sym, ap, ◌∙◌}
 use mathlib.Core.Logic.{◌⊎◌, inl, inr, ⊎_elim}
 use mathlib.Core.List.{List}
@@ -21,12 +21,13 @@ module _ {n b : ℕ} {w : List ℕ} {i d l : ℕ} (z : Lowest n b w i d l) where
     found = ⊎_elim inl (λ t. inr (t.0, omega (arith, t.1), t.2, t.3)) z.found;
   }
 
-  pub lowest_take : {l' : ℕ} → col b w (que n b w i) ≡ d → l' ≤ l → l' ≤ que n b w i → (l' ≡ l) ⊎ (l' ≡ que n b w i) → Lowest n b w (i + 1) d l'
-  lowest_take {l'} c a h s = record {
-    least = λ j t e. elim (ℕ_discrete j i) as (λ _. l' ≤ que n b w j) [ yes q ↦ rw q h | no q ↦ omega (arith, z.least j (omega arith) e) ];
-    found = ⊎_elim
-        (λ t. ⊎_elim (λ y. inl (t ∙ y)) (λ y. inr (y.0, omega (arith, y.1), y.2 ∙ sym t, rw t y.3)) z.found)
-        (λ t. inr (i, omega arith, sym t, rw t c)) s;
+  pub lowest_take : col b w (que n b w i) ≡ d → Lowest n b w (i + 1) d (min l (que n b w i))
+  lowest_take c = record {
+    least = λ j t e. elim (ℕ_discrete j i) as (λ _. min l (que n b w i) ≤ que n b w j) [ yes q ↦ rw q (omega arith) | no q ↦ omega (arith, z.least j (omega arith) e) ];
+    found = elim (dec_lt (que n b w i) l) as (λ _. (min l (que n b w i) ≡ n) ⊎ ((j : ℕ) × (j < i + 1) × (que n b w j ≡ min l (que n b w i)) × (col b w (min l (que n b w i)) ≡ d))) [
+      | yes h ↦ (let e : min l (que n b w i) ≡ que n b w i = omega arith in rw e (inr (i, omega arith, refl, c)))
+      | no h ↦ (let e : min l (que n b w i) ≡ l = omega arith in rw e (⊎_elim inl (λ t. inr (t.0, omega (arith, t.1), t.2, t.3)) z.found))
+    ];
   }
 
 pub low_le : {n b : ℕ} {w : List ℕ} {k d l : ℕ} → Lowest n b w k d l → Queued n b w k → l ≤ n

@@ -5,7 +5,7 @@ use Rattle.split.proofs.Splitting.{first_ask, second_ask, label_ask, split_all}
 use Rattle.split.proofs.split.Goals as goal
 
 pub search-requires : goal.search-requires
-search-requires c = rw c.forward-forward.ensures (sized c.args.at.m c.requires.0, first_ask c.requires.1)
+search-requires c = simp (c.forward-forward.ensures, c.backward-backward.ensures) (sized c.args.at.m c.requires.0, first_ask c.requires.1)
 
 pub overflow_add-f : goal.overflow_add-f
 overflow_add-f c = omega (arith, top_le c.requires.1.stage)
