@@ -5,7 +5,7 @@ use Rattle.split.proofs.Splitting.{first_ask, second_ask, label_ask, split_all}
 use Rattle.split.proofs.split.Goals as goal
 
 pub search-requires : goal.search-requires
-search-requires c = (sized c.args.m c.requires.0, first_ask c.requires.1)
+search-requires c = simp (c.forward-forward.ensures, c.backward-backward.ensures) (sized c.args.at.m c.requires.0, first_ask c.requires.1)
 
 pub overflow_add-f : goal.overflow_add-f
 overflow_add-f c = omega (arith, top_le c.requires.1.stage)
@@ -15,22 +15,27 @@ overflow_add-f-2 c = omega (arith, top_le c.requires.1.stage)
 
 pub search-s-requires : goal.search-s-requires
 search-s-requires c =
-    let g = sized c.args.m c.requires.0 in
-    (back g, second_ask c.requires.1 (c.search.ensures g (first_ask c.requires.1)))
+    let g = sized c.args.at.m c.requires.0 in
+    let y = rw c.forward-forward.ensures at c.search.ensures in
+    simp (c.forward-forward.ensures, c.backward-backward.ensures) (back g, second_ask c.requires.1 (y g (first_ask c.requires.1)))
 
 pub overflow_add-f-3 : goal.overflow_add-f-3
 overflow_add-f-3 c = omega (arith, top_le c.requires.1.stage)
 
 pub label-requires : goal.label-requires
 label-requires c =
-    let g = sized c.args.m c.requires.0 in
-    let f = c.search.ensures g (first_ask c.requires.1) in
-    label_ask c.requires.1 f (c.search-s.ensures (back g) (second_ask c.requires.1 f))
+    let g = sized c.args.at.m c.requires.0 in
+    let y = rw c.forward-forward.ensures at c.search.ensures in
+    let z = rw c.backward-backward.ensures at c.search-s.ensures in
+    let f = y g (first_ask c.requires.1) in
+    label_ask c.requires.1 f (z (back g) (second_ask c.requires.1 f))
 
 pub returns : goal.returns
 returns c =
-    let z = c.label.ensures in
+    let y = rw c.forward-forward.ensures at c.search.ensures in
+    let z = rw c.backward-backward.ensures at c.search-s.ensures in
+    let l = c.label.ensures in
     λ e a.
-    let g = sized c.args.m e in
-    let f = c.search.ensures g (first_ask a) in
-    split_all a f (c.search-s.ensures (back g) (second_ask a f)) z.lowest z.named
+    let g = sized c.args.at.m e in
+    let f = y g (first_ask a) in
+    split_all a f (z (back g) (second_ask a f)) l.lowest l.named
