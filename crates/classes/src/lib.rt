@@ -34,14 +34,7 @@ fn class(w: &mut [u32], along: Direction, label: &[u32], l: usize)
     if label[l] as usize != l {
         return;
     }
-    measuring::measure(
-        along.n,
-        w,
-        along.index,
-        along.base,
-        l,
-        (along.n + 1 + l) as u32,
-    );
+    measuring::measure(w, along, l, (along.n + 1 + l) as u32);
 }
 
 // One class after the other.
