@@ -7,14 +7,20 @@ use Rattle.sweep.proofs.drawn.take.Goals as goal
 pub overflow_cast-f : goal.overflow_cast-f
 overflow_cast-f c = omega (arith, pick_room c.requires.1)
 
-pub search-s-requires : goal.search-s-requires
-search-s-requires c = rw c.forward.ensures (sized c.args.at.m c.requires.0, first_find c.requires.1)
+pub overflow_add-reaching : goal.overflow_add-reaching
+overflow_add-reaching c = omega (arith, pick_room c.requires.1)
+
+pub overflow_add-reaching-in-Split : goal.overflow_add-reaching-in-Split
+overflow_add-reaching-in-Split c = omega (arith, pick_room c.requires.1)
 
 pub overflow_add-f : goal.overflow_add-f
 overflow_add-f c = omega (arith, pick_room c.requires.1)
 
-pub overflow_add-f-in-Split : goal.overflow_add-f-in-Split
-overflow_add-f-in-Split c = omega (arith, pick_room c.requires.1)
+pub overflow_add-result : goal.overflow_add-result
+overflow_add-result c = omega (arith, pick_room c.requires.1)
+
+pub search-s-requires : goal.search-s-requires
+search-s-requires c = rw c.forward.ensures (sized c.args.at.m c.requires.0, first_find c.requires.1)
 
 pub search-t-requires : goal.search-t-requires
 search-t-requires c =
@@ -22,17 +28,11 @@ search-t-requires c =
     let f = (rw c.forward.ensures at c.search-s.ensures) g (first_find c.requires.1) in
     rw c.backward.ensures (back g, second_find c.requires.1 f)
 
-pub overflow_add-f-in-Split-2 : goal.overflow_add-f-in-Split-2
-overflow_add-f-in-Split-2 c = omega (arith, pick_room c.requires.1)
-
 pub label-requires : goal.label-requires
 label-requires c =
     let g = sized c.args.at.m c.requires.0 in
     let f = (rw c.forward.ensures at c.search-s.ensures) g (first_find c.requires.1) in
     pick_label c.requires.1 f ((rw c.backward.ensures at c.search-t.ensures) (back g) (second_find c.requires.1 f))
-
-pub overflow_add-result : goal.overflow_add-result
-overflow_add-result c = omega (arith, pick_room c.requires.1)
 
 pub returns-in-Split-clause-picked : goal.returns-in-Split-clause-picked
 returns-in-Split-clause-picked c =

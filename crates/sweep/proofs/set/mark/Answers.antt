@@ -16,8 +16,5 @@ loop-i-smaller c =
 pub loop-i-preserved : goal.loop-i-preserved
 loop-i-preserved c = λ a. mark_step a (c.loop-i.invariant a) c.loop-i-test.true c.enter-k.ensures
 
-pub shape_of-words : goal.shape_of-words
-shape_of-words c = omega (arith, (c.loop-i.invariant c.requires).words, c.requires.empty.words)
-
 pub returns : goal.returns
 returns c = mark_all c.requires (c.loop-i.invariant c.requires) c.loop-i-test.false
