@@ -5,6 +5,7 @@ ghost use Rattle.graph.specs.Arrows.{SomeOf, EveryOf};
 ghost use Rattle.split.specs.Split.{Lowest, Queued, NameAsk, Named, LabelAsk, Labelled, PivotAsk, Split};
 
 use memory::layout::Layout;
+use paint::Map;
 
 // The lowest vertex of the colour d among the first k of the queue, or n.
 fn lowest(w: &[u32], at: Layout, k: usize, d: u32) -> usize
@@ -44,13 +45,26 @@ pub fn label(w: &mut [u32], at: Layout, k: usize, d: u32)
 }
 
 // The part q is split at its vertex p: the rest of what p reaches becomes f, the rest of what reaches p f + 1.
+#[tactic(auto, using(crate::proofs::Same::top_le))]
 pub fn split(w: &mut [u32], at: Layout, p: usize, q: u32, f: u32)
     requires { SomeOf at.n at.m (λ g. PivotAsk g at.base p q f w.old) }
     ensures { EveryOf at.n at.m (λ g. PivotAsk g at.base p q f w.old → Split g at.base p q f w.old w.new) }
 {
     let forward = at.forward();
     let backward = at.backward();
-    paint::search(at.n, w, forward.index, at.base, p, q, f, q, f);
-    let s = paint::search(at.n, w, backward.index, at.base, p, q, f + 1, f, f + 2);
+    let reached = Map {
+        a: q,
+        a2: f,
+        c: q,
+        c2: f,
+    };
+    let reaching = Map {
+        a: q,
+        a2: f + 1,
+        c: f,
+        c2: f + 2,
+    };
+    paint::search(w, forward, p, reached);
+    let s = paint::search(w, backward, p, reaching);
     label(w, at, s.k, f + 2);
 }
