@@ -75,14 +75,7 @@ fn take(
 }
 
 // One draw: the pivot is the vertex drawn from what is left of the part q.
-fn turn(
-    w: &mut [u32],
-    words: &mut [u64],
-    at: Layout,
-    q: u32,
-    now: Course,
-    method: Method,
-) -> Course
+fn turn(w: &mut [u32], words: &mut [u64], at: Layout, q: u32, now: Course, method: Method) -> Course
     requires { SomeOf at.n at.m (λ g. DrawAsk g (slicing_of method) at.base q now.top w.old words.old now.left) }
     ensures { EveryOf at.n at.m (λ g. DrawAsk g (slicing_of method) at.base q now.top w.old words.old now.left → Drawn g (slicing_of method) at.base q now.state now.top w.old w.new words.new result.state result.left result.top) }
 {
