@@ -1,4 +1,3 @@
-pub mod Product
 pub mod Members
 pub mod Places
 pub mod Unique

@@ -1,8 +1,6 @@
 -- The member at place j is the one below which j members stand.
-use Rattle.std.proofs.Common.{◌≡◌, ℕ, suc, ◌+◌, ◌-◌, ◌*◌, ◌^◌, ◌<◌, ◌≤◌, Bool, ◌&&◌, T, eqb, ltb, List, length, get_or, sym, ◌∙◌, add-one, arith, lt→ltb}
+use Rattle.std.proofs.Common.{◌≡◌, ℕ, suc, ◌+◌, ◌*◌, ◌<◌, ◌≤◌, Bool, ◌&&◌, T, eqb, ltb, List, length, sym, ◌∙◌, add-one, arith, lt→ltb}
 use native.Mathlib.Decide.{dec_lt}
-use lib.Count.{ones}
-use Rattle.graph.specs.Limits.{words_of, most_vertices}
 use Rattle.graph.specs.Numbers.{many, tally}
 use Rattle.graph.specs.Pivot.{member}
 use Rattle.graph.specs.Sets.{bit, members}
@@ -10,8 +8,7 @@ use Rattle.graph.proofs.Counts.{many_on}
 use Rattle.graph.proofs.Pivot.{member_in}
 use Rattle.graph.proofs.Sums.{tally_on}
 use Rattle.graph.proofs.Tests.{and_make, eq_t, cond_true, least_first}
-use Rattle.sets.proofs.Sizes.{bits_many, size_many, word_tally}
-use Rattle.sets.proofs.Store.{bit_lt}
+use Rattle.sets.proofs.Sizes.{bits_many, size_many}
 use Rattle.pivot.specs.Place.{Within, From, Found}
 
 -- a member counts one more
@@ -36,35 +33,22 @@ bit_member {w} {n} {j} {v} {k} {r} a f e =
     (sym (bits_many w n r (omega (arith, f.low))) ∙ f.before ∙ e) a.low
 
 -- one bit more
-bits_next : (w : List ℕ) (v : ℕ) → tally (bit w) (v + 1) ≡ tally (bit w) v + bit w v
+pub bits_next : (w : List ℕ) (v : ℕ) → tally (bit w) (v + 1) ≡ tally (bit w) v + bit w v
 unfolding tally
 bits_next w v = rw add-one
 
-from_make : {w : List ℕ} {n v k : ℕ} → n ≤ most_vertices → length w ≡ words_of n → tally (bit w) v + k < tally (bit w) n → From w n v k
-from_make {w} {n} {v} {k} s l h = record {
-  small = s;
-  words = l;
-  here = elim (dec_lt v n) as (λ _. v < n) [
+module _ {w : List ℕ} {n j : ℕ} (a : Within w n j) where
+  -- where place j has not been passed, vertices are left
+  before_end : (v k : ℕ) → tally (bit w) v + k ≡ j → v < n
+  before_end v k e = elim (dec_lt v n) as (λ _. v < n) [
     | yes q ↦ q
-    | no q ↦ absurd (omega (arith, tally_on (bit w) n v (omega arith)))
-  ];
-  low = h;
-}
+    | no q ↦ absurd (omega (arith, a.low, size_many w n, tally_on (bit w) n v (omega arith)))
+  ]
 
-pub from_begin : {w : List ℕ} {n j : ℕ} → Within w n j → From w n (0 * 64) j
-unfolding tally
-from_begin {w} {n} {j} h = from_make h.small h.words (omega (arith, h.low, size_many w n))
+  -- k members stand from v on below the one sought
+  pub from_at : (v k : ℕ) → tally (bit w) v + k ≡ j → From w n v k
+  from_at v k e = record { small = a.small; words = a.words; here = before_end v k e; low = omega (arith, a.low, size_many w n) }
 
-module _ {w : List ℕ} {n v k s : ℕ} (f : From w n v k) (e : tally (bit w) v + k ≡ s) where
-  -- the bit at v is passed over
-  pub from_next : bit w v ≤ k → From w n (v + 1) (k - bit w v) × (tally (bit w) (v + 1) + (k - bit w v) ≡ s)
-  from_next h = (from_make f.small f.words (omega (arith, f.low, bits_next w v)), omega (arith, bits_next w v))
-
-  -- the bit at v is the one sought
-  pub from_found : {u r : ℕ} → s ≡ tally (bit w) u + r → k < bit w v → Found w n u r v
-  from_found q h = let l = bit_lt w v in record { low = f.here; is = omega arith; before = omega arith }
-
--- word i is passed over
-pub from_word : {w : List ℕ} {n k s : ℕ} (i : ℕ) → get_or w i 0 < 2 ^ 64 → From w n (i * 64) k → tally (bit w) (i * 64) + k ≡ s → ones (get_or w i 0) ≤ k
-    → From w n ((i + 1) * 64) (k - ones (get_or w i 0)) × (tally (bit w) ((i + 1) * 64) + (k - ones (get_or w i 0)) ≡ s)
-from_word {w} i fits f e h = (from_make f.small f.words (omega (arith, f.low, word_tally w i fits)), omega (arith, word_tally w i fits))
+  -- so it does not lie behind the words
+  pub within_words : (i k : ℕ) → length w ≤ i → tally (bit w) (i * 64) + k ≡ j → ⊥
+  within_words i k h e = omega (arith, before_end (i * 64) k e, a.words)

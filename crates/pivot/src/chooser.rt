@@ -1,38 +1,43 @@
 // The chooser: a kind of pivot and a 32-bit state, lent by `&mut`.
-ghost use Rattle.std.specs.Prelude.{◌≡◌, ◌*◌, ◌%◌, ◌^◌};
+ghost use Rattle.std.specs.Prelude.{◌≡◌};
 ghost use Rattle.graph.specs.Pivot.{draw as drawn};
+ghost use Rattle.pivot.specs.Kinds.{Reads};
+
+use graph::refusal::Refusal;
 
 #[repr(C)]
-#[derive(Clone, Copy)]
+#[derive(Clone, Copy, Debug, PartialEq, Eq)]
 pub struct Chooser {
     pub kind: u32,
     pub state: u32,
 }
 
-// The product, modulo 2^32.
-pub fn wrapping_mul_u32(a: u32, b: u32) -> u32
-    ensures { result ≡ (a * b) % 2 ^ 32 }
-{
-    (((a as u64) * (b as u64)) % 4294967296) as u32
+// Which vertex of what is left is the pivot: the lowest, a drawn one, or the first in the caller's list.
+#[derive(Clone, Copy, Debug, PartialEq, Eq)]
+pub enum Pivots {
+    Lowest,
+    Drawn,
+    Listed,
+}
+
+impl TryFrom<u32> for Pivots {
+    type Error = Refusal;
+
+    ghost try_from_gives = { Reads };
+
+    fn try_from(kind: u32) -> Result<Pivots, Refusal> {
+        match kind {
+            0 => Ok(Pivots::Lowest),
+            1 => Ok(Pivots::Drawn),
+            2 => Ok(Pivots::Listed),
+            _ => Err(Refusal::UnknownChoice),
+        }
+    }
 }
 
 // The state after `state`.
 pub fn next(state: u32) -> u32
     ensures { result ≡ drawn state }
 {
-    std::num::wrapping_add_u32(wrapping_mul_u32(1664525, state), 1013904223)
-}
-
-// The chooser as it stands.
-pub fn copy(c: &mut Chooser) -> Chooser
-    ensures { (result ≡ c.old) × (c.new ≡ c.old) }
-{
-    *c
-}
-
-// The chooser becomes x.
-pub fn put(c: &mut Chooser, x: Chooser)
-    ensures { c.new ≡ x }
-{
-    *c = x;
+    state.wrapping_mul(1664525).wrapping_add(1013904223)
 }

@@ -4,64 +4,61 @@ ghost use Rattle.pivot.specs.Order.{Ordered};
 ghost use Rattle.pivot.specs.Placing.{Room, Place, Placed, Begun, Listing, Rest, AllPlaced};
 
 use memory::decomposer::ORDER;
+use memory::layout::Layout;
 
 // Vertex v takes place k of the order, unless it is marked; gives the next free place.
-fn place(n: usize, w: &mut [u32], b: usize, k: usize, v: usize) -> usize
-    requires { Place n b k v w.old }
-    ensures { Placed n b k v w.old w.new result }
+fn place(w: &mut [u32], at: Layout, k: usize, v: usize) -> usize
+    requires { Place at.n at.base k v w.old }
+    ensures { Placed at.n at.base k v w.old w.new result }
 {
-    if n <= v {
+    if at.n <= v {
         return k;
     }
-    if w[b + v] != 0 {
+    if w[at.base + v] != 0 {
         return k;
     }
-    w[b + v] = 1;
-    w[b + ORDER * n + 2 + k] = v as u32;
+    w[at.base + v] = 1;
+    w[at.base + ORDER * at.n + 2 + k] = v as u32;
     k + 1
 }
 
 // The entries of the list that are vertices, each at its first occurrence; gives their number.
-fn listed(n: usize, list: &[u32], w: &mut [u32], b: usize) -> usize
-    requires { Begun n b w.old }
-    ensures { Listing n b list.now w.old w.new result }
+fn listed(list: &[u32], w: &mut [u32], at: Layout) -> usize
+    requires { Begun at.n at.base w.old }
+    ensures { Listing at.n at.base list.now w.old w.new result }
 {
     let mut k = 0;
-    let mut i = 0;
-    while i < list.len() {
-        k = place(n, w, b, k, list[i] as usize);
-        i += 1;
+    for v in list {
+        k = place(w, at, k, *v as usize);
     }
     k
 }
 
 // The other vertices rising, from place first on.
-fn others(n: usize, w: &mut [u32], b: usize, first: usize)
-    requires { Rest n b first w.old }
-    ensures { AllPlaced n b first w.old w.new }
+fn others(w: &mut [u32], at: Layout, first: usize)
+    requires { Rest at.n at.base first w.old }
+    ensures { AllPlaced at.n at.base first w.old w.new }
 {
     let mut k = first;
-    let mut v = 0;
-    while v < n {
-        k = place(n, w, b, k, v);
-        v += 1;
+    for v in 0..at.n {
+        k = place(w, at, k, v);
     }
 }
 
-// The colours at b are the marks.
-pub fn arrange(n: usize, list: &[u32], w: &mut [u32], b: usize)
-    requires { Room n b w.old }
-    ensures { Ordered n list.now b w.old w.new }
+// The colours at the base are the marks.
+pub fn arrange(list: &[u32], w: &mut [u32], at: Layout)
+    requires { Room at.n at.base w.old }
+    ensures { Ordered at.n list.now at.base w.old w.new }
 {
-    memory::fill(w, b, n, 0);
-    let k = listed(n, list, w, b);
-    others(n, w, b, k);
+    memory::fill(w, at.base, at.n, 0);
+    let k = listed(list, w, at);
+    others(w, at, k);
 }
 
 // Without a list the order is the rising one, and needs no marks.
-pub fn rising(n: usize, w: &mut [u32], b: usize)
-    requires { Room n b w.old }
-    ensures { Ordered n [] b w.old w.new }
+pub fn rising(w: &mut [u32], at: Layout)
+    requires { Room at.n at.base w.old }
+    ensures { Ordered at.n [] at.base w.old w.new }
 {
-    memory::count(w, b + ORDER * n + 2, n, 0);
+    memory::count(w, at.base + ORDER * at.n + 2, at.n, 0);
 }

@@ -9,13 +9,16 @@ fn from(words: &[u64], n: usize, v: usize, rest: usize) -> usize
     requires { From words.now n v rest }
     ensures { Found words.now n v rest result }
 {
-    let mut u = v;
     let mut k = rest;
-    while (sets::has(words, u) as usize) <= k {
-        k -= sets::has(words, u) as usize;
-        u += 1;
+    for u in v..n {
+        if sets::has(words, u) == 1 {
+            if k == 0 {
+                return u;
+            }
+            k -= 1;
+        }
     }
-    u
+    n
 }
 
 // The member at place j: by counts of ones word by word, then within the word.
@@ -23,11 +26,13 @@ pub fn select(words: &[u64], n: usize, j: usize) -> usize
     requires { Within words.now n j }
     ensures { result ≡ member n (members n words.now) j }
 {
-    let mut i = 0;
     let mut rest = j;
-    while (u64::count_ones(words[i]) as usize) <= rest {
-        rest -= u64::count_ones(words[i]) as usize;
-        i += 1;
+    for (i, word) in words.iter().enumerate() {
+        let ones = word.count_ones() as usize;
+        if rest < ones {
+            return from(words, n, i * 64, rest);
+        }
+        rest -= ones;
     }
-    from(words, n, i * 64, rest)
+    n
 }

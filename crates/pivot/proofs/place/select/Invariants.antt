@@ -1,11 +1,7 @@
-use Rattle.std.proofs.Common.{◌≡◌, ◌+◌, ◌-◌, ◌*◌}
+use Rattle.std.proofs.Common.{◌≡◌, ◌+◌, ◌*◌}
 use Rattle.graph.specs.Numbers.{tally}
 use Rattle.graph.specs.Sets.{bit}
-use Rattle.pivot.specs.Place.{From}
 use Rattle.pivot.proofs.place.select.Given as goal
 
 abbrev pub invariant-loop-i : goal.invariant-loop-i
-invariant-loop-i l = From l.words l.n (l.i * 64) l.rest × (tally (bit l.words) (l.i * 64) + l.rest ≡ l.j)
-
-abbrev pub decreases-loop-i : goal.decreases-loop-i
-decreases-loop-i l = l.n - l.i * 64
+invariant-loop-i l = tally (bit l.words) (l.i * 64) + l.rest ≡ l.j
