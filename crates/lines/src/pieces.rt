@@ -1,7 +1,7 @@
 // A lent list of bytes in pieces, each ended by one byte: a text's lines, ended by LF, and a line's words, ended by a space.
 ghost use Rattle.std.specs.Prelude.{◌≡◌};
 ghost use Rattle.std.specs.Iterator.{YieldsFirstRef, item_count};
-ghost use Rattle.lines.specs.Pieces.{split, lines};
+ghost use Rattle.lines.specs.Pieces.{split, LF, lines};
 ghost use Rattle.lines.specs.Answers.{Cut, pieces_of};
 
 pub const LF: u8 = b'\n';
@@ -15,7 +15,8 @@ pub struct Pieces<'a> {
 
 impl<'a> Pieces<'a> {
     pub fn new(text: &'a [u8], stop: u8) -> Pieces<'a>
-        ensures { pieces_of result ≡ split stop text.now }
+        ensures pieces { pieces_of result ≡ split stop text.now }
+        ensures stop { result.stop ≡ stop }
     {
         Pieces { rest: text, stop }
     }
@@ -24,7 +25,7 @@ impl<'a> Pieces<'a> {
 impl<'a> Iterator for Pieces<'a> {
     type Item = &'a [u8];
 
-    ghost next_gives = { YieldsFirstRef pieces_of };
+    ghost next_gives = { λ p x q. YieldsFirstRef pieces_of p x q × (q.stop ≡ p.stop) };
 
     ghost remaining = { item_count pieces_of };
 
@@ -50,7 +51,8 @@ pub fn cut(text: &[u8], stop: u8) -> (&[u8], &[u8])
 
 // The lines of a text.
 pub fn lines(text: &[u8]) -> Pieces<'_>
-    ensures { pieces_of result ≡ lines text.now }
+    ensures pieces { pieces_of result ≡ lines text.now }
+    ensures stop { result.stop ≡ LF }
 {
     Pieces::new(text, LF)
 }
