@@ -63,12 +63,12 @@ pub fn write(
     ensures { Promise (call_of table.now label.now (lent rank.old in_edge.old in_distance.old out_edge.old out_distance.old numbers.old words.old)) (said result) (lent rank.new in_edge.new in_distance.new out_edge.new out_distance.new numbers.new words.new) }
 {
     let columns = Columns {
-        label: label,
-        rank: rank,
-        in_edge: in_edge,
-        in_distance: in_distance,
-        out_edge: out_edge,
-        out_distance: out_distance,
+        label,
+        rank,
+        in_edge,
+        in_distance,
+        out_edge,
+        out_distance,
     };
     refusal(table, &columns, numbers, words)?;
     let n = table.n;

@@ -16,16 +16,12 @@ fn find(table: &Table, label: &[u32], w: &mut [u32], base: usize) -> bool
 {
     build::both(table, w);
     let n = table.n;
-    let there = Direction {
-        n: n,
-        index: 0,
-        base: base,
-    };
+    let there = Direction { n, index: 0, base };
     if !classes::distances(w, there, label) {
         return false;
     }
     let back = Direction {
-        n: n,
+        n,
         index: n + 1 + table.sources.len(),
         base: base + n,
     };
