@@ -6,6 +6,7 @@ ghost use Rattle.graph.specs.Limits.{words_of};
 ghost use Rattle.graph.specs.Numbers.{tally};
 ghost use Rattle.graph.specs.Sets.{bit};
 ghost use Rattle.sets.specs.Changes.{Added, Removed, Joined, Shared, Clipped};
+ghost use Rattle.sets.specs.Sizes.{ill_sized};
 
 // Is v in the set?
 pub fn has(w: &[u64], v: usize) -> bool
@@ -76,4 +77,11 @@ pub fn size(w: &[u64]) -> usize
     ensures { result ≡ tally (bit w.now) (length w.now * 64) }
 {
     w.iter().map(|x| x.count_ones() as usize).sum()
+}
+
+// Has w another length than a set of n vertices?
+pub fn ill_sized(w: &[u64], n: usize) -> bool
+    ensures { result ≡ ill_sized n w.now }
+{
+    w.len() != n.div_ceil(64)
 }
