@@ -9,7 +9,7 @@ pub loop-i-init : goal.loop-i-init
 loop-i-init c = (refl, λ e a. sweep_none a)
 
 pub overflow_cast-y : goal.overflow_cast-y
-overflow_cast-y c = omega (arith, c.slice_known-in-loop-i-1.given (c.args.b + 2 * c.args.n + c.loop-i.i))
+overflow_cast-y c = omega (arith, c.type_inv.w (c.args.at.base + 2 * c.args.at.n + c.loop-i.i))
 
 pub turn-top-requires : goal.turn-top-requires
 turn-top-requires c = (c.requires.0, sweep_turn c.requires.1 (c.loop-i.invariant.1 c.requires.0 c.requires.1) c.loop-i-test.true)

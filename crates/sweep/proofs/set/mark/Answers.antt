@@ -6,9 +6,6 @@ use Rattle.sweep.proofs.set.mark.Goals as goal
 pub loop-i-init : goal.loop-i-init
 loop-i-init c = λ a. mark_none a
 
-pub overflow_cast-y : goal.overflow_cast-y
-overflow_cast-y c = omega (arith, c.shared_slice_known-in-loop-i-1.given (c.args.b + 2 * c.args.n + c.loop-i.i))
-
 pub enter-k-requires : goal.enter-k-requires
 enter-k-requires c = enter_ask c.requires (c.loop-i.invariant c.requires) c.loop-i-test.true
 
