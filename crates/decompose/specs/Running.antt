@@ -11,7 +11,8 @@ use Rattle.waiting.specs.Records.{none}
 use Rattle.pivot.specs.Order.{Arranged}
 use Rattle.pivot.specs.declared.chooser.Chooser.{Chooser}
 use Rattle.machine.specs.declared.Machine.{Machine}
-use Rattle.machine.specs.Aim.{ring, aim, goes}
+use Rattle.machine.specs.Orders.{order_of}
+use Rattle.machine.specs.Aim.{ring, aim}
 use Rattle.machine.specs.Waits.{Waits, waiting_count, first_of}
 use Rattle.parts.specs.Divide.{Blank}
 use Rattle.machine.specs.Machine.{base, Whole}
@@ -46,18 +47,17 @@ pub record Running (g : Graph) (c : Chooser) (ys : List Part) (num wor : List �
   -- the machine's chooser is a copy of the one lent, advanced by the draws made
   pub kind : s.chooser.kind ≡ c.kind
   pub state : s.chooser.state ≡ draws s.made c.state
-  pub going : s.go ≡ goes g.n s
-  pub reading : s.read ≡ aim g.n s
+  pub aiming : s.next ≡ aim g.n s
 
 -- The course from the whole to what stands: the colours, and the parts that wait, each by the colour of its first place. Kind 1 has drawn once for every choice.
 pub record Traced (g : Graph) (method : ℕ) (c : Chooser) (list : List ℕ) (ys : List Part) (num : List ℕ) (s : Machine) : Type 0 where
   pub known : c.kind ≤ 2
   pub order : Arranged g.n (list_of c.kind list) (ord g.n (base g) num)
   pub choices : ℕ
-  pub course : Course g method s.order c.kind c.state list s.slicing (col (base g) num) s.top (waiting_count s) (λ i. own g.n (base g) num (first_of g.n (base g) ys num s i)) choices
+  pub course : Course g method (order_of s.order) c.kind c.state list s.slicing (col (base g) num) s.top (waiting_count s) (λ i. own g.n (base g) num (first_of g.n (base g) ys num s i)) choices
   pub drawn : s.made ≡ cond (eqb c.kind 1) choices 0
 
--- What stays through turns: records beyond n, memory beyond what is needed, the refusal and the slice order.
+-- What stays through turns: records beyond n, memory beyond what is needed, and the slice order.
 pub record Went (n m : ℕ) (ys : List Part) (num wor : List ℕ) (s : Machine) (ys' : List Part) (num' wor' : List ℕ) (e : Machine) : Type 0 where
   pub long : length ys' ≡ length ys
   pub list : (j : ℕ) → n ≤ j → get_or ys' j none ≡ get_or ys j none
@@ -65,5 +65,4 @@ pub record Went (n m : ℕ) (ys : List Part) (num wor : List ℕ) (s : Machine) 
   pub numbers : (j : ℕ) → numbers_needed n m ≤ j → get_or num' j 0 ≡ get_or num j 0
   pub words_long : length wor' ≡ length wor
   pub words : (j : ℕ) → words_needed n ≤ j → get_or wor' j 0 ≡ get_or wor j 0
-  pub refusal : e.refusal ≡ s.refusal
   pub order : e.order ≡ s.order

@@ -8,8 +8,13 @@ use borrow.Author.Tests.{eq-eqb, ne_eqb}
 use Rattle.graph.specs.Graph.{Graph}
 use Rattle.parts.specs.Divide.{MethodAsk, Division}
 use Rattle.waiting.specs.declared.Part.{Part}
+use mathlib.Core.Bool.{cond}
+use lib.Dec.{eqb}
 use Rattle.machine.specs.declared.Machine.{Machine}
-use Rattle.machine.specs.Machine.{base, CutAsk, ClearAsk, PartAsk, older_than}
+use Rattle.machine.specs.declared.Order.{Order}
+use Rattle.machine.specs.declared.Order.TheVariants.{Newest, Oldest}
+use Rattle.machine.specs.Orders.{order_of}
+use Rattle.machine.specs.Machine.{CutAsk, ClearAsk, PartAsk, older_than}
 use Rattle.machine.specs.Aim.{wrapped}
 use Rattle.machine.proofs.Round.{wrapped_low}
 
@@ -18,7 +23,7 @@ pub cut_ask : {g : Graph} {b slicing : ℕ} {p : Part} {top : ℕ} {w ws : List 
 cut_ask o a = record { ask = a.ask; only = λ e. (a.whole (o e)).first }
 
 -- the part of the record that is taken can be divided
-pub taken_part : {g : Graph} {p : Part} {s : Machine} {w ws : List ℕ} → PartAsk g p s w ws → CutAsk g (base g) p s.top w ws
+pub taken_part : {g : Graph} {b : ℕ} {p : Part} {s : Machine} {w ws : List ℕ} → PartAsk g b p s w ws → CutAsk g b p s.top w ws
 taken_part a = (a.ask.part a.cleared a.given).1
 
 -- kind 1 draws for every pivot, the others never
@@ -36,13 +41,14 @@ module _ {g : Graph} {slicing b kind state h top : ℕ} {w ws w' ws' : List ℕ}
   drawn_most = omega (arith, drawn_few, v.most)
 
 pub older_low : (n : ℕ) (s : Machine) → ClearAsk n s → older_than n s < n
-older_low n s a = elim (ℕ_discrete s.order 0) as (λ _. older_than n s < n) [
-  | yes q ↦ rw (eq-eqb s.order 0 q) a.oldest
-  | no q ↦ rw (ne_eqb s.order 0 q) (let o = a.oldest in go o)
-]
+older_low n s a = of s.order
   where
-    go : s.oldest < n → wrapped n (s.oldest + 1) < n
-    go o = elim (ℕ_discrete n 1) as (λ _. wrapped n (s.oldest + 1) < n) [
+    after : s.oldest < n → wrapped n (s.oldest + 1) < n
+    after o = elim (ℕ_discrete n 1) as (λ _. wrapped n (s.oldest + 1) < n) [
       | yes q ↦ wrapped_low n (s.oldest + 1) (omega arith)
       | no q ↦ wrapped_low n (s.oldest + 1) (omega arith)
     ]
+
+    of : (o : Order) → cond (eqb (order_of o) 0) s.oldest (wrapped n (s.oldest + 1)) < n
+    of Newest = a.oldest
+    of Oldest = after a.oldest
