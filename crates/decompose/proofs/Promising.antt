@@ -33,7 +33,7 @@ use Rattle.pivot.specs.Kinds.{kind_of}
 use Rattle.pivot.specs.Order.{Arranged}
 use Rattle.pivot.proofs.Unique.{kind_low}
 use Rattle.pivot.specs.declared.chooser.Chooser.{Chooser}
-use Rattle.decompose.specs.Accept.{Named}
+use Rattle.decompose.specs.Accept.{Named, Chosen}
 use Rattle.decompose.specs.declared.accept.Choice.{Choice}
 use Rattle.machine.specs.declared.Machine.{Machine}
 use Rattle.std.proofs.Common.{Result, Ok, Err}
@@ -47,17 +47,12 @@ use Rattle.decompose.specs.Turns.{DriveAsk, Ran, idle, ran, Driven}
 use Rattle.decompose.specs.Begin.{layout_of, BeginAsk, Started, first_one, Begun, nothing, begun}
 use Rattle.decompose.specs.Finish.{FinishAsk, Ended}
 use Rattle.decompose.specs.Plain.{still, Plainly}
-use Rattle.decompose.specs.Promise.{Call, collection, refusal_on, call, after, PromiseOn, Promise}
+use Rattle.decompose.specs.Promise.{Call, collection, call, after, Promise}
 use Rattle.machine.proofs.Waiting.{waits_same}
 use Rattle.machine.proofs.Aiming.{aim_clear, no_place, stopped}
-use Rattle.decompose.proofs.Accepting.{Accepted, accepted}
+use Rattle.decompose.proofs.Accepting.{Lent, lent_passed, lent_ask, lent, all, refused_lent, refused_chosen}
 use Rattle.decompose.proofs.Starting.{rings_begin}
 use Rattle.decompose.proofs.Coursing.{drawn_first, course_same, apart_none}
-
--- what the tests leave is what the beginning asks
-accepted_ask : {n : ℕ} {src tgt kinds : List ℕ} {method order kind lab parts : ℕ} {num wor : List ℕ} (mask : ℕ)
-    → Accepted n src tgt kinds method order kind lab parts (length num) (length wor) → BeginAsk (table n src tgt kinds mask) kinds num wor
-accepted_ask mask a = record { valid = a.valid mask; kinded = a.kinded; small = a.small; few = a.few; memory = a.memory }
 
 -- the machine before its first turn
 module _ {g : Graph} {kinds : List ℕ} (x : Choice) {c : Chooser} {list num wor num' wor' : List ℕ}
@@ -201,29 +196,36 @@ module _ {g : Graph} {c : Chooser} {ys : List Part} {num wor : List ℕ} {e : Ma
     unfolding summary
     ended_rings = many_mono (λ l. leb 2 (sharing lab l)) (ring g.n (col (base g) num)) g.n shared
 
--- refused
-pub refused_met : {k : ℕ} {g : Graph} {c : Call} (r : Refusal) → number_of r ≡ refusal_on k c → PromiseOn k g c (after c.chooser c.waiting c.label c.numbers c.words) (Err r)
-refused_met r e = record { refusal = e; gives = record { refused = number_some r; chooser = refl; waiting = refl; label = refl; numbers = refl; words = refl } }
+-- a call that is refused, for what was lent or for what was chosen
+module _ {c : Call} (r : Refusal) where
+  refused_met : number_of r ≡ all c → Promise c (after c.chooser c.waiting c.label c.numbers c.words) (Err r)
+  refused_met e = record { refusal = e; gives = record { refused = number_some r; chooser = refl; waiting = refl; label = refl; numbers = refl; words = refl } }
+
+  pub lent_met : number_of r ≡ lent c → Promise c (after c.chooser c.waiting c.label c.numbers c.words) (Err r)
+  lent_met e = refused_met (refused_lent c r e)
+
+  pub chosen_met : 0 ≡ lent c → Chosen c.method c.order c.chooser.kind (Err r) → Promise c (after c.chooser c.waiting c.label c.numbers c.words) (Err r)
+  chosen_met z x = refused_met (refused_chosen c (Err r) z x)
 
 -- a call that is not refused
-module _ (c : Call) (x : Choice) (z : 0 ≡ refusal_on (table_refusal c.n c.sources c.targets c.kinds) c) (h : Named c.method c.order c.chooser.kind x) where
+module _ (c : Call) {x : Choice} (z : 0 ≡ lent c) (h : Named c.method c.order c.chooser.kind x) where
   abbrev g : Graph
   g = collection c
 
-  passed : Accepted c.n c.sources c.targets c.kinds c.method c.order c.chooser.kind (length c.label) (length c.waiting) (length c.numbers) (length c.words)
-  passed = accepted (sym z)
+  passed : Lent c.n c.sources c.targets c.kinds (length c.label) (length c.waiting) (length c.numbers) (length c.words)
+  passed = lent_passed z
 
   valid : Valid g
   valid = passed.valid c.mask
 
+  ask : BeginAsk g c.kinds c.numbers c.words
+  ask = lent_ask c.mask passed
+
   known : x.method ≤ 1
   known = omega (arith, h.known, h.method)
 
-  pub call_limits : InLimits c.n (length c.sources)
-  call_limits = record { small = passed.small; few = passed.few }
-
-  pub call_begin : BeginAsk g c.kinds c.numbers c.words
-  call_begin = accepted_ask c.mask passed
+  unrefused : 0 ≡ all c
+  unrefused = refused_chosen c (Ok x) z h
 
   module _ {lab₃ num₃ wor₃ : List ℕ} where
     -- no vertex
@@ -231,7 +233,7 @@ module _ (c : Call) (x : Choice) (z : 0 ≡ refusal_on (table_refusal c.n c.sour
     unfolding draws summary
     nothing_met e f =
         record {
-          refusal = z;
+          refusal = unrefused;
           gives = record {
             label = right_unique valid lab₃ (f.copied.long ∙ passed.label) (λ v l. absurd (omega arith));
             choices = 0;
@@ -255,7 +257,7 @@ module _ (c : Call) (x : Choice) (z : 0 ≡ refusal_on (table_refusal c.n c.sour
     ran_met {num₂ = num₂} st r w t d f =
         let copied : (v : ℕ) → v < c.n → get_or lab₃ v 0 ≡ col (base g) num₂ v = λ v l. f.copied.each v (omega (arith, passed.label)) in
         record {
-          refusal = z;
+          refusal = unrefused;
           gives = record {
             label = right_unique valid lab₃ (f.copied.long ∙ passed.label) (λ v l. rw (copied v l) (ended_label r d valid v l));
             choices = t.choices;
@@ -277,12 +279,12 @@ module _ (c : Call) (x : Choice) (z : 0 ≡ refusal_on (table_refusal c.n c.sour
     met (nothing q) (idle y) d f = nothing_met q f
     met (nothing q) (ran p r w t) d f = absurd (no_place refl p)
     met (begun q st) (idle y) d f = absurd (no_place y (aim_clear c.n (first_one c.n x c.chooser) q))
-    met (begun q st) (ran p r w t) d f = ran_met st r w (t x.method c.list (begun_traced x call_begin known h.pivots q st c.waiting passed.waiting)) d f
+    met (begun q st) (ran p r w t) d f = ran_met st r w (t x.method c.list (begun_traced x ask known h.pivots q st c.waiting passed.waiting)) d f
 
   -- the calls of the decomposer, one after the other, on the layout of the call
   module _ {at : Layout} (e : at ≡ layout_of g) {num₁ wor₁ : List ℕ} {s : Machine} (b : Begun g x c.chooser c.list c.numbers c.words num₁ wor₁ s) where
     drive_ask : DriveAsk g (base g) c.waiting num₁ wor₁ s
-    drive_ask = begun_drive call_begin known h.pivots passed.waiting b
+    drive_ask = begun_drive ask known h.pivots passed.waiting b
 
     pub call_drive : SomeOf at.n at.m (λ g. DriveAsk g at.base c.waiting num₁ wor₁ s)
     call_drive = subst (λ (y : Layout). SomeOf y.n y.m (λ g. DriveAsk g y.base c.waiting num₁ wor₁ s)) (sym e) (arrows g, drive_ask)
@@ -292,7 +294,7 @@ module _ (c : Call) (x : Choice) (z : 0 ≡ refusal_on (table_refusal c.n c.sour
       driven = subst (λ (y : Layout). EveryOf y.n y.m (λ g. DriveAsk g y.base c.waiting num₁ wor₁ s → Driven g c.waiting num₁ wor₁ s ys₂ num₂ wor₂ r)) e d (arrows g) drive_ask
 
       pub call_finish : FinishAsk at.n at.m at.base c.label num₂ wor₂
-      call_finish = subst (λ (y : Layout). FinishAsk y.n y.m y.base c.label num₂ wor₂) (sym e) (driven_finish call_begin passed.label b driven)
+      call_finish = subst (λ (y : Layout). FinishAsk y.n y.m y.base c.label num₂ wor₂) (sym e) (driven_finish ask passed.label b driven)
 
       pub call_met : {lab₃ num₃ wor₃ : List ℕ} → Ended at.n at.m at.base c.label num₂ wor₂ lab₃ num₃ wor₃ → Promise c (after r.chooser ys₂ lab₃ num₃ wor₃) (Ok r.made)
       call_met {lab₃} {num₃} {wor₃} f = met b driven.run driven.done (subst (λ (y : Layout). Ended y.n y.m y.base c.label num₂ wor₂ lab₃ num₃ wor₃) e f)
