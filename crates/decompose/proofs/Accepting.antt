@@ -17,6 +17,7 @@ use Rattle.graph.specs.Reasons.{number_of, said}
 use Rattle.graph.proofs.Reasons.{or_err, or_ok}
 use Rattle.pivot.proofs.Unique.{kind_low}
 use Rattle.machine.proofs.Orders.{order_low}
+use Rattle.machine.proofs.Cutting.{method_low}
 use Rattle.graph.specs.declared.refusal.Refusal.{Refusal}
 use Rattle.decompose.specs.Accept.{lent_refusal, Chosen}
 use Rattle.decompose.specs.Begin.{BeginAsk}
@@ -79,7 +80,7 @@ lent_or k n edges method order kind label waiting numbers words =
 chosen_said : (method order kind : ℕ) (r : Result Choice Refusal) → Chosen method order kind r → said r ≡ given unknown_choice (ltb 1 method || ltb 2 kind || ltb 1 order)
 unfolding given
 chosen_said method order kind (Ok x) c =
-    rw (le-ltb 1 method c.known, le-ltb 2 kind (omega (arith, kind_low x.pivots, c.pivots)), le-ltb 1 order (omega (arith, order_low x.order, c.order)))
+    rw (le-ltb 1 method (omega (arith, method_low x.method, c.method)), le-ltb 2 kind (omega (arith, kind_low x.pivots, c.pivots)), le-ltb 1 order (omega (arith, order_low x.order, c.order)))
 chosen_said method order kind (Err e) c = ap number_of c.0 ∙ elim (dec_lt 1 method) as (λ _. unknown_choice ≡ cond (ltb 1 method || ltb 2 kind || ltb 1 order) unknown_choice 0) [
   | yes a ↦ rw (lt-ltb 1 method a)
   | no a ↦ elim (dec_lt 2 kind) as (λ _. unknown_choice ≡ cond (ltb 1 method || ltb 2 kind || ltb 1 order) unknown_choice 0) [

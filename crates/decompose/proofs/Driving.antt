@@ -22,29 +22,30 @@ use Rattle.waiting.specs.Records.{none}
 use Rattle.pivot.specs.declared.chooser.Chooser.{Chooser}
 use Rattle.std.specs.declared.option.Option.{Option}
 use Rattle.std.specs.declared.option.Option.TheVariants.{Some, None}
+use Rattle.sweep.specs.Methods.{slicing_of}
 use Rattle.machine.specs.declared.Machine.{Machine}
 use Rattle.machine.specs.Orders.{order_of}
 use Rattle.machine.specs.Aim.{ring, aim, aimed}
 use Rattle.parts.specs.Divide.{DivideAsk, Division}
 use Rattle.machine.specs.Waits.{Waits, waiting_count, first_of}
-use Rattle.machine.specs.Machine.{base, clearing, handing, dividing, Whole, CutAsk, StepAsk, Stepped, clears, hands, divides}
+use Rattle.machine.specs.Machine.{base, slicing, clearing, handing, dividing, Whole, CutAsk, StepAsk, Stepped, clears, hands, divides}
 use Rattle.parts.proofs.Dividing.{division_divides}
 use Rattle.decompose.specs.Running.{Unsliced, Running, Traced, Went}
 use Rattle.decompose.specs.Turns.{DriveAsk, Ran, idle, ran}
 use Rattle.machine.proofs.Round.{wrapped_low, wrapped_one}
 use Rattle.machine.proofs.Waiting.{waits_few, waits_same, waits_divide, waits_divided, list_divided}
-use Rattle.machine.proofs.Cutting.{drawn_none, drawn_one, drawn_few, drawn_most}
+use Rattle.machine.proofs.Cutting.{slicing_same, drawn_none, drawn_one, drawn_few, drawn_most}
 use Rattle.machine.proofs.Aiming.{Mode, clear, hand, take, stop, mode, aim_clear, aim_hand, aim_stop, one_place, no_place, Takes, takes}
 use Rattle.decompose.proofs.Order.{order_kept}
 use Rattle.decompose.proofs.Coursing.{draws_more, agree_drawn, divides_agree, course_same, drawn_sum}
 
 -- what is left to do: vertices to label, parts to hand out, records to take, places to clear
 abbrev pub togo : ℕ → ℕ → List ℕ → Machine → ℕ
-togo n m num s = 200000 * (n - many (λ v. ltb (col (2 * (n + 1 + m)) num v) n) n) + 14000000000 * s.slicing + (2 * (s.pending - s.given) + s.count + (n - s.cleared))
+togo n m num s = 200000 * (n - many (λ v. ltb (col (2 * (n + 1 + m)) num v) n) n) + 14000000000 * (slicing_of s.method) + (2 * (s.pending - s.given) + s.count + (n - s.cleared))
 
 -- the whole that has still to be sliced, where its place is as it was
-slicing_kept : {n b : ℕ} {ys ys' : List Part} {num : List ℕ} {s e : Machine} → e.slicing ≡ s.slicing → e.top ≡ s.top → e.made ≡ s.made → waiting_count e ≡ waiting_count s
-    → first_of n b ys' num e 0 ≡ first_of n b ys num s 0 → (s.slicing ≡ 0) ⊎ Unsliced n b ys num s → (e.slicing ≡ 0) ⊎ Unsliced n b ys' num e
+slicing_kept : {n b : ℕ} {ys ys' : List Part} {num : List ℕ} {s e : Machine} → slicing_of e.method ≡ slicing_of s.method → e.top ≡ s.top → e.made ≡ s.made → waiting_count e ≡ waiting_count s
+    → first_of n b ys' num e 0 ≡ first_of n b ys num s 0 → (slicing_of s.method ≡ 0) ⊎ Unsliced n b ys num s → (slicing_of e.method ≡ 0) ⊎ Unsliced n b ys' num e
 slicing_kept a b c d f (inl q) = inl (a ∙ q)
 slicing_kept a b c d f (inr x) =
     inr (record { one = a ∙ x.one; alone = d ∙ x.alone; whole = record { zero = f ∙ x.whole.zero; colours = x.whole.colours; first = b ∙ x.whole.first }; made = c ∙ x.made })
@@ -98,7 +99,7 @@ module _ {g : Graph} {c : Chooser} {ys : List Part} {num wor : List ℕ} {s : Ma
     its_first : first_of g.n (base g) ys num s (its s) ≡ (get_or ys place none).first
     its_first = first_listed (its s) (taken a b p).low ∙ ap (λ (j : ℕ). (get_or ys j none).first) (sym its_place)
 
-    its_flag : (get_or ys place none).slicing ≡ s.slicing
+    its_flag : (get_or ys place none).slicing ≡ slicing_of s.method
     its_flag = ap (λ (j : ℕ). (get_or ys j none).slicing) its_place ∙ r.flags (its s) (taken a b p).low
 
     ask : CutAsk g (base g) (get_or ys place none) s.top num wor
@@ -198,7 +199,7 @@ module _ {g : Graph} {c : Chooser} {ys : List Part} {num wor : List ℕ} {s : Ma
     -- a pending part is handed out
     module _ (a : g.n ≤ s.cleared) (b : s.given < s.pending) where
       abbrev child : Part
-      child = record { first = head g.n (base g) num s.given; slicing = s.slicing }
+      child = record { first = head g.n (base g) num s.given; slicing = slicing_of s.method }
 
       abbrev e₂ : Machine
       e₂ = aimed g.n (handing g.n (base g) num s)
@@ -245,7 +246,7 @@ module _ {g : Graph} {c : Chooser} {ys : List Part} {num wor : List ℕ} {s : Ma
               | yes w ↦ absurd (q s.count (omega arith) (sym there₂ ∙ sym w))
               | no w ↦ get_or-set_other ys place j child none w ∙ r.zeros j h (λ i l. q i (omega arith))
             ];
-            flags = λ i l. elim (dec_lt i s.count) as (λ _. (get_or (set ys place child) (ring g.n s i) none).slicing ≡ s.slicing) [
+            flags = λ i l. elim (dec_lt i s.count) as (λ _. (get_or (set ys place child) (ring g.n s i) none).slicing ≡ slicing_of s.method) [
               | yes q ↦ ap (λ (p : Part). p.slicing) (else₂ i q) ∙ r.flags i q
               | no q ↦ let w : i ≡ s.count = omega arith in ap (λ (j : ℕ). (get_or (set ys place child) (ring g.n s j) none).slicing) w ∙ ap (λ (p : Part). p.slicing) here₂
             ];
@@ -268,7 +269,7 @@ module _ {g : Graph} {c : Chooser} {ys : List Part} {num wor : List ℕ} {s : Ma
 
     -- the part of a record is divided
     module _ (a : g.n ≤ s.cleared) (b : s.pending ≤ s.given) (p : 0 < s.count) {num' wor' : List ℕ} {state k top children : ℕ}
-        (v : Division g s.slicing (base g) c.kind s.chooser.state (first_of g.n (base g) ys num s (its s)) s.top num wor num' wor' state k top children) where
+        (v : Division g (slicing_of s.method) (base g) c.kind s.chooser.state (first_of g.n (base g) ys num s (its s)) s.top num wor num' wor' state k top children) where
       abbrev e₃ : Machine
       e₃ = aimed g.n (dividing g.n s state k top children)
 
@@ -298,16 +299,16 @@ module _ {g : Graph} {c : Chooser} {ys : List Part} {num wor : List ℕ} {s : Ma
       back₃ j l = rw (le-ltb (s.count - 1 + j) (s.count - 1) (omega arith)) (ap (head g.n (base g) num') (omega arith))
 
       -- the whole is divided before any draw
-      unsliced : s.slicing ≡ 1 → s.made ≡ 0
+      unsliced : slicing_of s.method ≡ 1 → s.made ≡ 0
       unsliced q = ⊎_elim (λ x. absurd (omega arith)) (λ x. x.made) r.whole
 
       bounded : s.made + k ≤ labelled g (base g) num' + g.n
-      bounded = elim (ℕ_discrete s.slicing 1) as (λ _. s.made + k ≤ labelled g (base g) num' + g.n) [
+      bounded = elim (ℕ_discrete (slicing_of s.method) 1) as (λ _. s.made + k ≤ labelled g (base g) num' + g.n) [
         | yes q ↦ omega (arith, unsliced q, drawn_most v)
         | no q ↦ omega (arith, r.most, v.few q, drawn_few v)
       ]
 
-      alone : s.slicing ≡ 0 → (i : ℕ) → i + 1 < s.count → (get_or (set ys place none) (ring g.n e₃ i) none).slicing ≡ 0
+      alone : slicing_of s.method ≡ 0 → (i : ℕ) → i + 1 < s.count → (get_or (set ys place none) (ring g.n e₃ i) none).slicing ≡ 0
       alone q i l = ap (λ (x : Part). x.slicing) (else₃ i l) ∙ r.flags (others s i) (taking.without.low i l) ∙ q
 
       divided_run : Running g c (set ys place none) num' wor' e₃
@@ -350,9 +351,9 @@ module _ {g : Graph} {c : Chooser} {ys : List Part} {num wor : List ℕ} {s : Ma
           ]
 
       divided_less : togo g.n (edges g) num' e₃ < togo g.n (edges g) num s
-      divided_less = elim (ℕ_discrete s.slicing 1) as (λ _. togo g.n (edges g) num' e₃ < togo g.n (edges g) num s) [ yes q ↦ sliced q | no q ↦ more (v.some q) ]
+      divided_less = elim (ℕ_discrete (slicing_of s.method) 1) as (λ _. togo g.n (edges g) num' e₃ < togo g.n (edges g) num s) [ yes q ↦ sliced q | no q ↦ more (v.some q) ]
         where
-          sliced : s.slicing ≡ 1 → togo g.n (edges g) num' e₃ < togo g.n (edges g) num s
+          sliced : slicing_of s.method ≡ 1 → togo g.n (edges g) num' e₃ < togo g.n (edges g) num s
           sliced q = omega (arith, v.handed.most, r.small, count_low)
 
           more : labelled g (base g) num < labelled g (base g) num' → togo g.n (edges g) num' e₃ < togo g.n (edges g) num s
@@ -405,11 +406,11 @@ module _ {g : Graph} {c : Chooser} {ys : List Part} {num wor : List ℕ} {s : Ma
   stepped {num'} {wor'} (divides {state = state} {k} {top} {children} a b v) = let p = ((running_ask r busy).part a b).0 in divided r busy a b p (as_listed p)
     where
       -- the record is the one whose turn it is
-      as_listed : 0 < s.count → Division g s.slicing (base g) c.kind s.chooser.state (first_of g.n (base g) ys num s (its s)) s.top num wor num' wor' state k top children
+      as_listed : 0 < s.count → Division g (slicing_of s.method) (base g) c.kind s.chooser.state (first_of g.n (base g) ys num s (its s)) s.top num wor num' wor' state k top children
       as_listed p =
-          subst (λ (h : ℕ). Division g s.slicing (base g) c.kind s.chooser.state h s.top num wor num' wor' state k top children) (sym (its_first r busy a b p))
-          (subst (λ (f : ℕ). Division g f (base g) c.kind s.chooser.state (get_or ys place none).first s.top num wor num' wor' state k top children) (its_flag r busy a b p)
-          (subst (λ (i : ℕ). Division g (get_or ys place none).slicing (base g) i s.chooser.state (get_or ys place none).first s.top num wor num' wor' state k top children) r.kind v))
+          subst (λ (h : ℕ). Division g (slicing_of s.method) (base g) c.kind s.chooser.state h s.top num wor num' wor' state k top children) (sym (its_first r busy a b p))
+          (subst (λ (f : ℕ). Division g f (base g) c.kind s.chooser.state (get_or ys place none).first s.top num wor num' wor' state k top children) (slicing_same (get_or ys place none) s.method (its_flag r busy a b p))
+          (subst (λ (i : ℕ). Division g (slicing (get_or ys place none)) (base g) i s.chooser.state (get_or ys place none).first s.top num wor num' wor' state k top children) r.kind v))
 
 module _ {g : Graph} {ys : List Part} {num wor : List ℕ} {s : Machine} where
   pub driving_begin : {b : ℕ} → DriveAsk g b ys num wor s → Ran g ys num wor s ys num wor s

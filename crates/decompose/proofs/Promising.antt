@@ -35,6 +35,7 @@ use Rattle.pivot.proofs.Unique.{kind_low}
 use Rattle.pivot.specs.declared.chooser.Chooser.{Chooser}
 use Rattle.decompose.specs.Accept.{Named, Chosen}
 use Rattle.decompose.specs.declared.accept.Choice.{Choice}
+use Rattle.sweep.specs.Methods.{slicing_of}
 use Rattle.machine.specs.declared.Machine.{Machine}
 use Rattle.std.proofs.Common.{Result, Ok, Err}
 use Rattle.graph.specs.declared.refusal.Refusal.{Refusal}
@@ -49,6 +50,7 @@ use Rattle.decompose.specs.Finish.{FinishAsk, Ended}
 use Rattle.decompose.specs.Plain.{still, Plainly}
 use Rattle.decompose.specs.Promise.{Call, collection, call, after, Promise}
 use Rattle.machine.proofs.Waiting.{waits_same}
+use Rattle.machine.proofs.Cutting.{method_low}
 use Rattle.machine.proofs.Aiming.{aim_clear, no_place, stopped}
 use Rattle.decompose.proofs.Accepting.{Lent, lent_passed, lent_ask, lent, all, refused_lent, refused_chosen}
 use Rattle.decompose.proofs.Starting.{rings_begin}
@@ -56,7 +58,7 @@ use Rattle.decompose.proofs.Coursing.{drawn_first, course_same, apart_none}
 
 -- the machine before its first turn
 module _ {g : Graph} {kinds : List ℕ} (x : Choice) {c : Chooser} {list num wor num' wor' : List ℕ}
-    (a : BeginAsk g kinds num wor) (known : x.method ≤ 1) (same : kind_of x.pivots ≡ c.kind) (p : 0 < g.n) (st : Started g (kind_of x.pivots) list num wor num' wor') (ys : List Part) (l : g.n ≤ length ys) where
+    (a : BeginAsk g kinds num wor) (same : kind_of x.pivots ≡ c.kind) (p : 0 < g.n) (st : Started g (kind_of x.pivots) list num wor num' wor') (ys : List Part) (l : g.n ≤ length ys) where
   begun_running : Running g c ys num' wor' (aimed g.n (first_one g.n x c))
   unfolding aim draws
   begun_running =
@@ -71,9 +73,9 @@ module _ {g : Graph} {kinds : List ℕ} (x : Choice) {c : Chooser} {list num wor
         early = λ q. refl;
         zeros = λ j h. absurd (not-suc-le-zero h);
         flags = λ i h. absurd (not-suc-le-zero h);
-        whole = elim (ℕ_discrete x.method 0) as (λ _. (x.method ≡ 0) ⊎ Unsliced g.n (base g) ys num' (aimed g.n (first_one g.n x c))) [
+        whole = elim (ℕ_discrete (slicing_of x.method) 0) as (λ _. (slicing_of x.method ≡ 0) ⊎ Unsliced g.n (base g) ys num' (aimed g.n (first_one g.n x c))) [
           | yes q ↦ inl q
-          | no q ↦ inr (record { one = omega (arith, known); alone = refl; whole = st.whole; made = refl })
+          | no q ↦ inr (record { one = omega (arith, method_low x.method); alone = refl; whole = st.whole; made = refl })
         ];
         waits = waits_same st.waits (first_of g.n (base g) ys num' (aimed g.n (first_one g.n x c))) same_first;
         blank = st.blank;
@@ -89,7 +91,7 @@ module _ {g : Graph} {kinds : List ℕ} (x : Choice) {c : Chooser} {list num wor
       same_first i h = let z : i ≡ 0 = omega arith in rw z refl
 
   -- the course begins with the whole
-  begun_traced : Traced g x.method c list ys num' (aimed g.n (first_one g.n x c))
+  begun_traced : Traced g (slicing_of x.method) c list ys num' (aimed g.n (first_one g.n x c))
   begun_traced =
       record {
         known = omega (arith, same, kind_low x.pivots);
@@ -100,10 +102,10 @@ module _ {g : Graph} {kinds : List ℕ} (x : Choice) {c : Chooser} {list num wor
       }
 
 -- the drive may begin
-begun_drive : {g : Graph} {kinds : List ℕ} {x : Choice} {c : Chooser} {list num wor num' wor' : List ℕ} {ys : List Part} {s : Machine} → BeginAsk g kinds num wor → x.method ≤ 1 → kind_of x.pivots ≡ c.kind
+begun_drive : {g : Graph} {kinds : List ℕ} {x : Choice} {c : Chooser} {list num wor num' wor' : List ℕ} {ys : List Part} {s : Machine} → BeginAsk g kinds num wor → kind_of x.pivots ≡ c.kind
     → g.n ≤ length ys → Begun g x c list num wor num' wor' s → DriveAsk g (base g) ys num' wor' s
-begun_drive a k e l (nothing z) = record { base = refl; ready = λ i q. absurd (no_place refl q) }
-begun_drive {x = x} {ys = ys} a k e l (begun p st) = record { base = refl; ready = λ i q. begun_running x a k e p st ys l }
+begun_drive a e l (nothing z) = record { base = refl; ready = λ i q. absurd (no_place refl q) }
+begun_drive {x = x} {ys = ys} a e l (begun p st) = record { base = refl; ready = λ i q. begun_running x a e p st ys l }
 
 -- the lengths of lent memory stay
 record Lengths (num wor num' wor' : List ℕ) : Type 0 where
@@ -158,11 +160,11 @@ module _ {g : Graph} {c : Chooser} {ys : List Part} {num wor : List ℕ} {e : Ma
       → TakenApart g method order c.kind c.state list lab t.choices
   ended_course {method} {order} {list} lab are o t =
       record {
-        slicing = e.slicing;
+        slicing = slicing_of e.method;
         top = e.top;
         own = col (base g) num;
         part = λ i. own g.n (base g) num (first_of g.n (base g) ys num e i);
-        course = subst (λ (x : ℕ). Course g method x c.kind c.state list e.slicing (col (base g) num) e.top 0 (λ i. own g.n (base g) num (first_of g.n (base g) ys num e i)) t.choices) o
+        course = subst (λ (x : ℕ). Course g method x c.kind c.state list (slicing_of e.method) (col (base g) num) e.top 0 (λ i. own g.n (base g) num (first_of g.n (base g) ys num e i)) t.choices) o
             (course_same (sym none_left) (λ i l. refl) t.course);
         labels = are;
       }
@@ -221,9 +223,6 @@ module _ (c : Call) {x : Choice} (z : 0 ≡ lent c) (h : Named c.method c.order 
   ask : BeginAsk g c.kinds c.numbers c.words
   ask = lent_ask c.mask passed
 
-  known : x.method ≤ 1
-  known = omega (arith, h.known, h.method)
-
   unrefused : 0 ≡ all c
   unrefused = refused_chosen c (Ok x) z h
 
@@ -252,7 +251,7 @@ module _ (c : Call) {x : Choice} (z : 0 ≡ lent c) (h : Named c.method c.order 
 
     -- the machine ran
     ran_met : {num₁ wor₁ num₂ wor₂ : List ℕ} {e : Machine} {ys₂ : List Part} → Started g (kind_of x.pivots) c.list c.numbers c.words num₁ wor₁ → Running g c.chooser ys₂ num₂ wor₂ e
-        → Went c.n (length c.sources) c.waiting num₁ wor₁ (aimed c.n (first_one c.n x c.chooser)) ys₂ num₂ wor₂ e → Traced g x.method c.chooser c.list ys₂ num₂ e → e.next ≡ None
+        → Went c.n (length c.sources) c.waiting num₁ wor₁ (aimed c.n (first_one c.n x c.chooser)) ys₂ num₂ wor₂ e → Traced g (slicing_of x.method) c.chooser c.list ys₂ num₂ e → e.next ≡ None
         → Ended c.n (length c.sources) (base g) c.label num₂ wor₂ lab₃ num₃ wor₃ → Promise c (after e.chooser ys₂ lab₃ num₃ wor₃) (Ok e.made)
     ran_met {num₂ = num₂} st r w t d f =
         let copied : (v : ℕ) → v < c.n → get_or lab₃ v 0 ≡ col (base g) num₂ v = λ v l. f.copied.each v (omega (arith, passed.label)) in
@@ -279,12 +278,12 @@ module _ (c : Call) {x : Choice} (z : 0 ≡ lent c) (h : Named c.method c.order 
     met (nothing q) (idle y) d f = nothing_met q f
     met (nothing q) (ran p r w t) d f = absurd (no_place refl p)
     met (begun q st) (idle y) d f = absurd (no_place y (aim_clear c.n (first_one c.n x c.chooser) q))
-    met (begun q st) (ran p r w t) d f = ran_met st r w (t x.method c.list (begun_traced x ask known h.pivots q st c.waiting passed.waiting)) d f
+    met (begun q st) (ran p r w t) d f = ran_met st r w (t (slicing_of x.method) c.list (begun_traced x ask h.pivots q st c.waiting passed.waiting)) d f
 
   -- the calls of the decomposer, one after the other, on the layout of the call
   module _ {at : Layout} (e : at ≡ layout_of g) {num₁ wor₁ : List ℕ} {s : Machine} (b : Begun g x c.chooser c.list c.numbers c.words num₁ wor₁ s) where
     drive_ask : DriveAsk g (base g) c.waiting num₁ wor₁ s
-    drive_ask = begun_drive ask known h.pivots passed.waiting b
+    drive_ask = begun_drive ask h.pivots passed.waiting b
 
     pub call_drive : SomeOf at.n at.m (λ g. DriveAsk g at.base c.waiting num₁ wor₁ s)
     call_drive = subst (λ (y : Layout). SomeOf y.n y.m (λ g. DriveAsk g y.base c.waiting num₁ wor₁ s)) (sym e) (arrows g, drive_ask)

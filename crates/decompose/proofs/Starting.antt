@@ -136,8 +136,8 @@ pub started_at : (g : Graph) (at : Layout) (kind : ℕ) (list : List ℕ) {kinds
     → k ≡ words_needed at.n → Zeroed k ws ws' → Started g kind list w ws w₆ ws'
 started_at g at kind list {kinds} {w} {w₁} {w₂} {w₃} {w₄} {w₅} {w₆} {ws} {ws'} {k} e a both =
     subst (λ (at : Layout). Ordered at.n (list_of kind list) at.base w₁ w₂
-        → Put at.base at.n (λ j. at.n) w₂ w₃ → Put (at.base + 2 * at.n) at.n (λ j. j + 1) w₃ w₄ → Put (at.base + 3 * at.n) (3 * at.n + 2) (λ j. at.n) w₄ w₅ → Put (at.base + 8 * at.n + 2) 1 (λ j. 0) w₅ w₆
-        → k ≡ words_needed at.n → Zeroed k ws ws' → Started g kind list w ws w₆ ws') (sym e)
+    → Put at.base at.n (λ j. at.n) w₂ w₃ → Put (at.base + 2 * at.n) at.n (λ j. j + 1) w₃ w₄ → Put (at.base + 3 * at.n) (3 * at.n + 2) (λ j. at.n) w₄ w₅ → Put (at.base + 8 * at.n + 2) 1 (λ j. 0) w₅ w₆
+    → k ≡ words_needed at.n → Zeroed k ws ws' → Started g kind list w ws w₆ ws') (sym e)
     (λ o p q r s f z. started g (list_of kind list) a both o p q r s (subst (λ (x : ℕ). Zeroed x ws ws') f z) kind list refl)
 
 -- at the beginning no component has its label

@@ -1,10 +1,11 @@
 -- The tests of a call: what was lent, and what was chosen.
-use Rattle.std.specs.Prelude.{ℕ, ◌<◌, ◌≤◌, ◌≡◌, ◌⊎◌, not, Result, MatchResult, eqb, ltb}
+use Rattle.std.specs.Prelude.{ℕ, ◌<◌, ◌≡◌, ◌⊎◌, not, Result, MatchResult, eqb, ltb}
 use Rattle.graph.specs.Limits.{wrong_length, memory_short, list_short}
 use Rattle.graph.specs.Refusal.{given, ◌or◌, lacking}
 use Rattle.graph.specs.declared.refusal.Refusal.{Refusal}
 use Rattle.graph.specs.declared.refusal.Refusal.TheVariants.{UnknownChoice}
 use Rattle.pivot.specs.Kinds.{kind_of}
+use Rattle.sweep.specs.Methods.{slicing_of}
 use Rattle.machine.specs.Orders.{order_of}
 use Rattle.decompose.specs.declared.accept.Choice.{Choice}
 
@@ -18,8 +19,7 @@ lent_refusal k n edges label waiting numbers words =
 
 -- a choice has these numbers
 pub record Named (m o k : ℕ) (x : Choice) : Type 0 where
-  pub method : x.method ≡ m
-  pub known : m ≤ 1
+  pub method : slicing_of x.method ≡ m
   pub order : order_of x.order ≡ o
   pub pivots : kind_of x.pivots ≡ k
 

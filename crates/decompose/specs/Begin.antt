@@ -55,7 +55,7 @@ first_one n x c =
       count = 0;
       given = 0;
       pending = 1;
-      slicing = x.method;
+      method = x.method;
       top = n + 1;
     }
 

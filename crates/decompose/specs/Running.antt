@@ -10,6 +10,7 @@ use Rattle.waiting.specs.declared.Part.{Part}
 use Rattle.waiting.specs.Records.{none}
 use Rattle.pivot.specs.Order.{Arranged}
 use Rattle.pivot.specs.declared.chooser.Chooser.{Chooser}
+use Rattle.sweep.specs.Methods.{slicing_of}
 use Rattle.machine.specs.declared.Machine.{Machine}
 use Rattle.machine.specs.Orders.{order_of}
 use Rattle.machine.specs.Aim.{ring, aim}
@@ -19,7 +20,7 @@ use Rattle.machine.specs.Machine.{base, Whole}
 
 -- the whole collection has still to be sliced
 pub record Unsliced (n b : ℕ) (ys : List Part) (num : List ℕ) (s : Machine) : Type 0 where
-  pub one : s.slicing ≡ 1
+  pub one : slicing_of s.method ≡ 1
   pub alone : waiting_count s ≡ 1
   pub whole : Whole n b (first_of n b ys num s 0) s.top num
   pub made : s.made ≡ 0
@@ -36,8 +37,8 @@ pub record Running (g : Graph) (c : Chooser) (ys : List Part) (num wor : List �
   pub early : s.cleared < g.n → s.count ≡ 0
   pub zeros : (j : ℕ) → j < s.cleared → ((i : ℕ) → i < s.count → ring g.n s i ≡ j → ⊥) → get_or ys j none ≡ none
   -- only the whole collection is ever to be sliced
-  pub flags : (i : ℕ) → i < s.count → (get_or ys (ring g.n s i) none).slicing ≡ s.slicing
-  pub whole : (s.slicing ≡ 0) ⊎ Unsliced g.n (base g) ys num s
+  pub flags : (i : ℕ) → i < s.count → (get_or ys (ring g.n s i) none).slicing ≡ slicing_of s.method
+  pub whole : (slicing_of s.method ≡ 0) ⊎ Unsliced g.n (base g) ys num s
   pub waits : Waits g (base g) s.top (waiting_count s) (first_of g.n (base g) ys num s) num
   pub blank : Blank g.n wor
   -- kind 1 draws for each component of two or more, and at most twice for each vertex; the others never
@@ -54,7 +55,7 @@ pub record Traced (g : Graph) (method : ℕ) (c : Chooser) (list : List ℕ) (ys
   pub known : c.kind ≤ 2
   pub order : Arranged g.n (list_of c.kind list) (ord g.n (base g) num)
   pub choices : ℕ
-  pub course : Course g method (order_of s.order) c.kind c.state list s.slicing (col (base g) num) s.top (waiting_count s) (λ i. own g.n (base g) num (first_of g.n (base g) ys num s i)) choices
+  pub course : Course g method (order_of s.order) c.kind c.state list (slicing_of s.method) (col (base g) num) s.top (waiting_count s) (λ i. own g.n (base g) num (first_of g.n (base g) ys num s i)) choices
   pub drawn : s.made ≡ cond (eqb c.kind 1) choices 0
 
 -- What stays through turns: records beyond n, memory beyond what is needed, and the slice order.

@@ -9,6 +9,7 @@ use graph::refusal::Refusal;
 use graph::table::Table;
 use machine::Order;
 use pivot::chooser::Pivots;
+use sweep::Method;
 use waiting::Part;
 
 // The first of 1, 2, 21, 3, 4, 22, 5, 6, 7 that applies, whatever the mask.
@@ -37,7 +38,7 @@ pub fn accept(
 // What a call chooses.
 #[derive(Clone, Copy, Debug, PartialEq, Eq)]
 pub struct Choice {
-    pub method: u32,
+    pub method: Method,
     pub order: Order,
     pub pivots: Pivots,
 }
@@ -47,11 +48,8 @@ impl Choice {
     pub fn read(method: u32, order: u32, kind: u32) -> Result<Choice, Refusal>
         ensures { Chosen method order kind result }
     {
-        if 1 < method {
-            return Err(Refusal::UnknownChoice);
-        }
         Ok(Choice {
-            method: method,
+            method: Method::try_from(method)?,
             order: Order::try_from(order)?,
             pivots: Pivots::try_from(kind)?,
         })

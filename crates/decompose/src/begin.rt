@@ -64,7 +64,7 @@ fn first(n: usize, choice: Choice, chooser: Chooser) -> Machine
     Machine {
         next: None,
         part: NONE,
-        chooser: chooser,
+        chooser,
         made: 0,
         order: choice.order,
         cleared: 0,
@@ -72,7 +72,7 @@ fn first(n: usize, choice: Choice, chooser: Chooser) -> Machine
         count: 0,
         given: 0,
         pending: 1,
-        slicing: choice.method,
+        method: choice.method,
         top: n + 1,
     }
 }

@@ -32,9 +32,9 @@ pub fn decompose(
     accept::accept(table, label, waiting, numbers, words)?;
     let choice = Choice::read(method, order, chooser.kind)?;
     let at = begin::layout(table);
-    let s = begin::begin(table, choice, *chooser, list, numbers, words);
-    let e = turns::drive(numbers, words, at, waiting, s);
-    *chooser = e.chooser;
+    let begun = begin::begin(table, choice, *chooser, list, numbers, words);
+    let ended = turns::drive(numbers, words, at, waiting, begun);
+    *chooser = ended.chooser;
     finish::finish(numbers, words, at, label);
-    Ok(e.made)
+    Ok(ended.made)
 }

@@ -19,10 +19,8 @@ pub fn drive(
 {
     let mut s = begun;
     while let Some(i) = s.next {
-        let p = parts[i];
-        let e = s.step(w, words, at, p);
-        parts[i] = e.part;
-        s = e;
+        s = s.step(w, words, at, parts[i]);
+        parts[i] = s.part;
     }
     s
 }

@@ -5,6 +5,8 @@ use Rattle.graph.specs.Limits.{most_vertices, most_edges}
 use Rattle.memory.specs.Decomposer.{head, col}
 use Rattle.waiting.specs.declared.Part.{Part}
 use Rattle.waiting.specs.Records.{none}
+use Rattle.sweep.specs.declared.Method.TheVariants.{Split}
+use Rattle.sweep.specs.Methods.{slicing_of}
 use Rattle.machine.specs.declared.Machine.{Machine}
 use Rattle.machine.specs.Orders.{order_of}
 use Rattle.parts.specs.Divide.{DivideAsk, Division}
@@ -20,7 +22,7 @@ clearing s = record s { part = none; cleared = s.cleared + 1 }
 
 -- the next pending part goes to the list
 abbrev pub handing : ℕ → ℕ → List ℕ → Machine → Machine
-handing n b w s = record s { part = record { first = head n b w s.given; slicing = s.slicing }; count = s.count + 1; given = s.given + 1 }
+handing n b w s = record s { part = record { first = head n b w s.given; slicing = slicing_of s.method }; count = s.count + 1; given = s.given + 1 }
 
 -- the oldest record's place after one is taken: order 0 takes the newest
 abbrev pub older_than : ℕ → Machine → ℕ
@@ -37,9 +39,13 @@ dividing n s state k top children =
       count = s.count - 1;
       given = 0;
       pending = children;
-      slicing = 0;
+      method = Split;
       top = top;
     }
+
+-- the method by which a part is divided: 1 for the whole that has still to be sliced, else 0
+abbrev pub slicing : Part → ℕ
+slicing p = cond (eqb p.slicing 1) 1 0
 
 -- the part at h is the whole collection, of the one colour n
 pub record Whole (n b h top : ℕ) (w : List ℕ) : Type 0 where
@@ -81,7 +87,7 @@ pub data Stepped (g : Graph) (b : ℕ) (p : Part) (s : Machine) (num wor : List 
   clears : s.cleared < g.n → Stepped g b p s num wor num wor (aimed g.n (clearing s))
   hands : g.n ≤ s.cleared → s.given < s.pending → Stepped g b p s num wor num wor (aimed g.n (handing g.n b num s))
   divides : {num' wor' : List ℕ} {state k top children : ℕ} → g.n ≤ s.cleared → s.pending ≤ s.given
-      → Division g p.slicing b s.chooser.kind s.chooser.state p.first s.top num wor num' wor' state k top children
+      → Division g (slicing p) b s.chooser.kind s.chooser.state p.first s.top num wor num' wor' state k top children
       → Stepped g b p s num wor num' wor' (aimed g.n (dividing g.n s state k top children))
 
 -- the record is to be divided

@@ -7,6 +7,7 @@ ghost use Rattle.machine.specs.Aim.{AimAsk, wrapped, aim as aim_of, aimed as aim
 
 use graph::refusal::Refusal;
 use pivot::chooser::Chooser;
+use sweep::Method;
 use waiting::Part;
 
 pub mod step;
@@ -54,8 +55,8 @@ pub struct Machine {
     // the pending parts: those on the list already, and all of them
     pub given: usize,
     pub pending: usize,
-    // 1 while method 1 has still to slice the whole
-    pub slicing: u32,
+    // Slice while the whole has still to be sliced
+    pub method: Method,
     // the first colour that no part has
     pub top: usize,
 }

@@ -1,9 +1,10 @@
 // One step of the machine: a record is cleared, a pending part handed out, or a part divided.
 ghost use Rattle.std.specs.Prelude.{◌≡◌};
 ghost use Rattle.graph.specs.Arrows.{SomeOf, EveryOf};
+ghost use Rattle.sweep.specs.Methods.{slicing_of};
 ghost use Rattle.parts.specs.Divide.{Division};
 ghost use Rattle.machine.specs.Aim.{aimed as aimed_of};
-ghost use Rattle.machine.specs.Machine.{clearing, handing, ClearAsk, HandAsk, CutAsk, PartAsk, StepAsk, Stepped, older_than};
+ghost use Rattle.machine.specs.Machine.{slicing, clearing, handing, ClearAsk, HandAsk, CutAsk, PartAsk, StepAsk, Stepped, older_than};
 
 use crate::{Machine, NONE, Order, wrap};
 use memory::decomposer::PENDING;
@@ -11,9 +12,20 @@ use memory::layout::Layout;
 use parts::divide;
 use parts::divide::Divided;
 use pivot::chooser::Chooser;
+use sweep::Method;
 use waiting::Part;
 
-// The part of a record is divided: the whole by method 1, if it has still to be sliced, else by method 0.
+// The method by which the part of a record is divided: 1 is the whole that has still to be sliced.
+fn method_of(part: Part) -> Method
+    ensures { slicing_of result ≡ slicing part }
+{
+    match part.slicing {
+        1 => Method::Slice,
+        _ => Method::Split,
+    }
+}
+
+// The part of a record is divided.
 fn cut(
     w: &mut [u32],
     words: &mut [u64],
@@ -23,18 +35,16 @@ fn cut(
     top: usize,
 ) -> Divided
     requires { SomeOf at.n at.m (λ g. CutAsk g at.base part top w.old words.old) }
-    ensures { EveryOf at.n at.m (λ g. CutAsk g at.base part top w.old words.old → Division g part.slicing at.base chooser.kind chooser.state part.first top w.old words.old w.new words.new result.state result.draws result.top result.children) }
+    ensures { EveryOf at.n at.m (λ g. CutAsk g at.base part top w.old words.old → Division g (slicing part) at.base chooser.kind chooser.state part.first top w.old words.old w.new words.new result.outcome.state result.outcome.draws result.outcome.top result.children) }
 {
     divide::divide(
-        at.n,
-        at.m,
         w,
         words,
-        at.base,
+        at,
         part.first as usize,
         chooser,
         top,
-        part.slicing,
+        method_of(part),
     )
 }
 
@@ -44,12 +54,12 @@ impl Machine {
         requires { ClearAsk n self }
         ensures { result ≡ aimed_of n (clearing self) }
     {
-        let next = Machine {
+        let cleared = Machine {
             part: NONE,
             cleared: self.cleared + 1,
             ..self
         };
-        next.aimed(n)
+        cleared.aimed(n)
     }
 
     // The next pending part goes to the list.
@@ -57,16 +67,16 @@ impl Machine {
         requires { HandAsk at.n at.base w.now self }
         ensures { result ≡ aimed_of at.n (handing at.n at.base w.now self) }
     {
-        let next = Machine {
+        let handed = Machine {
             part: Part {
                 first: w[at.base + PENDING * at.n + 2 + self.given],
-                slicing: self.slicing,
+                slicing: self.method as u32,
             },
             count: self.count + 1,
             given: self.given + 1,
             ..self
         };
-        next.aimed(at.n)
+        handed.aimed(at.n)
     }
 
     // The oldest record's place after one is taken.
@@ -86,22 +96,22 @@ impl Machine {
         ensures { EveryOf at.n at.m (λ g. PartAsk g at.base part self w.old words.old → Stepped g at.base part self w.old words.old w.new words.new result) }
     {
         let r = cut(w, words, at, part, self.chooser, self.top);
-        let next = Machine {
+        let divided = Machine {
             part: NONE,
             chooser: Chooser {
-                state: r.state,
+                state: r.outcome.state,
                 ..self.chooser
             },
-            made: self.made + r.draws,
+            made: self.made + r.outcome.draws,
             oldest: self.older(at.n),
             count: self.count - 1,
             given: 0,
             pending: r.children,
-            slicing: 0,
-            top: r.top,
+            method: Method::Split,
+            top: r.outcome.top,
             ..self
         };
-        next.aimed(at.n)
+        divided.aimed(at.n)
     }
 
     // One step on the record that was taken.

@@ -14,14 +14,14 @@ returns-in_err-choice c =
 pub layout-at-requires : goal.layout-at-requires
 layout-at-requires c = lent_limits (lent_passed c.in_ok-accept.ensures)
 
-pub begin-s-requires : goal.begin-s-requires
-begin-s-requires c = lent_ask _ (lent_passed c.in_ok-accept.ensures)
+pub begin-begun-requires : goal.begin-begun-requires
+begin-begun-requires c = lent_ask _ (lent_passed c.in_ok-accept.ensures)
 
-pub drive-e-requires : goal.drive-e-requires
-drive-e-requires c = call_drive _ c.in_ok-accept.ensures c.in_ok-choice.ensures c.layout-at.ensures c.begin-s.ensures
+pub drive-ended-requires : goal.drive-ended-requires
+drive-ended-requires c = call_drive _ c.in_ok-accept.ensures c.in_ok-choice.ensures c.layout-at.ensures c.begin-begun.ensures
 
 pub finish-requires : goal.finish-requires
-finish-requires c = call_finish _ c.in_ok-accept.ensures c.in_ok-choice.ensures c.layout-at.ensures c.begin-s.ensures c.drive-e.ensures
+finish-requires c = call_finish _ c.in_ok-accept.ensures c.in_ok-choice.ensures c.layout-at.ensures c.begin-begun.ensures c.drive-ended.ensures
 
 pub returns : goal.returns
-returns c = call_met _ c.in_ok-accept.ensures c.in_ok-choice.ensures c.layout-at.ensures c.begin-s.ensures c.drive-e.ensures c.finish.ensures
+returns c = call_met _ c.in_ok-accept.ensures c.in_ok-choice.ensures c.layout-at.ensures c.begin-begun.ensures c.drive-ended.ensures c.finish.ensures
