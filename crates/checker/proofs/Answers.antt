@@ -5,6 +5,7 @@ use native.Mathlib.Nat.{suc-ne-zero}
 use native.Mathlib.Decide.{ℕ_discrete, dec_lt}
 use mathlib.Core.Path.{◌≡◌, refl, sym, subst, ◌∙◌}
 use mathlib.Core.Logic.{◌↔◌, ◌⊎◌, inl, inr, ⊎_elim, by_cases}
+use borrow.Author.Tests.{eq-eqb, ne_eqb}
 use lib.Dec.{T, eqb, eqb→eq, T_not, not_T}
 use Rattle.graph.specs.Graph.{Graph, rev, edges}
 use Rattle.graph.specs.Numbers.{least}
@@ -12,11 +13,14 @@ use Rattle.graph.specs.Checker.{Columns, check1, check2, check3, check5, fault, 
 use Rattle.graph.specs.Checker as graph_checker
 use Rattle.graph.proofs.Tests.{t_dec, T_true, no_t, cond_true, cond_false, least_passes, least_first}
 use Rattle.graph.proofs.Verdict.{Passes, fault_none, accepted_verdict}
-use Rattle.checker.specs.Promise.{Call, collection, checker_refusal, outcome, done, Promise}
+use Rattle.std.specs.Prelude.{Result, Ok, Err}
+use Rattle.graph.specs.Reasons.{number_of}
+use Rattle.graph.specs.declared.refusal.Refusal.{Refusal}
+use Rattle.checker.specs.Promise.{Call, collection, checker_refusal, judged, outcome, done, refused, promised_on, Promise}
 use Rattle.checker.specs.Answer.{Fails, one, two, three, four, FirstFailed, at_vertex, at_edge, Says}
 use Rattle.checker.specs.declared.Verdict.{Verdict}
-use Rattle.checker.specs.declared.Verdict.TheVariants.{Accepted, Failed, Refused}
-use Rattle.checker.proofs.Laws.{refused_promise, judged_promise, wrong, wrong_edge, edge_failed, vertex_failed, vertices_pass}
+use Rattle.checker.specs.declared.Verdict.TheVariants.{Accepted, Failed}
+use Rattle.checker.proofs.Laws.{fault_found, refused_promise, judged_promise, wrong, wrong_edge, edge_failed, vertex_failed, vertices_pass}
 use Rattle.checker.proofs.Unique.{check_one}
 
 module _ (g : Graph) (c : Columns) where
@@ -49,17 +53,17 @@ module _ (g : Graph) (c : Columns) where
   none_passes v o = ⊎_elim (λ p. p) (λ (k, f). absurd (o k f)) (passes_or_fails v)
 
   -- the first failed check is the verdict
-  failed_verdict : {k x : ℕ} → FirstFailed g c k x → outcome (Failed k x) ≡ done (verdict g c)
+  failed_verdict : {k x : ℕ} → FirstFailed g c k x → judged (Failed k x) ≡ verdict g c
   failed_verdict {k} (at_vertex {v = v} none l f) =
       let (q, o) = fails_fault v k f in
-      vertex_failed g c l (λ u m. rw ((fault_none g c u).1 (none_passes u (λ j. none u j m)))) q o
+      vertex_failed g c l (λ u m. rw ((fault_none g c u).1 (none_passes u (λ j. none u j m)))) (fault_found g c v q o)
   failed_verdict (at_edge {e} none before l o) =
       vertices_pass g c (Failed 5 e) {v = g.n} (λ v m. rw ((fault_none g c v).1 (none_passes v (λ j. none v j m)))) (omega arith)
       (edge_failed g c {e = e} {r = check5 g c e} l (λ d m. rw (T_true (check5 g c d) (before d m))) refl (rw (no_t (check5 g c e) o)))
 
   -- columns of which no check fails first pass them all
-  judged : graph_checker.Accepted g c ⊎ ((k x : ℕ) × FirstFailed g c k x)
-  judged = go (dec_lt (least g.n (wrong g c)) g.n) (dec_lt (least (edges g) (wrong_edge g c)) (edges g))
+  decided : graph_checker.Accepted g c ⊎ ((k x : ℕ) × FirstFailed g c k x)
+  decided = go (dec_lt (least g.n (wrong g c)) g.n) (dec_lt (least (edges g) (wrong_edge g c)) (edges g))
     where
       none : (v k : ℕ) → v < g.n → v < least g.n (wrong g c) → Fails g c v k → ⊥
       none v k l m f =
@@ -83,18 +87,28 @@ module _ (g : Graph) (c : Columns) where
           passes v l = none_passes v (λ j. none v j l (omega arith))
 
 module _ (c : Call) where
-  says_promise : (a : Verdict) → Says c a → Promise c a
-  unfolding Says outcome
-  says_promise Accepted (e, x) = judged_promise c Accepted e (rw (accepted_verdict (collection c) c.given_columns x))
-  says_promise (Failed k x) (e, f) = judged_promise c (Failed k x) e (failed_verdict (collection c) c.given_columns f)
-  says_promise (Refused k) (e, o) = refused_promise c k (sym e) o
-
-  some_answer : (a : Verdict) × Says c a
+  says_promise : (a : Result Verdict Refusal) → Says c a → Promise c a
   unfolding Says
-  some_answer = by_cases (ℕ_discrete (checker_refusal c) 0)
-      (λ e. ⊎_elim (λ x. (Accepted, (e, x))) (λ (k, x, f). (Failed k x, (e, f))) (judged (collection c) c.given_columns))
-      (λ o. (Refused (checker_refusal c), (refl, o)))
+  says_promise (Ok Accepted) (e, x) = judged_promise c Accepted e (rw (accepted_verdict (collection c) c.given_columns x))
+  says_promise (Ok (Failed k x)) (e, f) = judged_promise c (Failed k x) e (failed_verdict (collection c) c.given_columns f)
+  says_promise (Err r) e = refused_promise c r (sym e)
+
+  -- some verdict is right of a call that is not refused
+  some_verdict : checker_refusal c ≡ 0 → (v : Verdict) × Says c (Ok v)
+  unfolding Says
+  some_verdict e = ⊎_elim (λ x. (Accepted, (e, x))) (λ (k, x, f). (Failed k x, (e, f))) (decided (collection c) c.given_columns)
+
+  promise_says : (a : Result Verdict Refusal) → Promise c a → Says c a
+  unfolding Says promised_on outcome
+  promise_says (Ok v) p = elim (ℕ_discrete (checker_refusal c) 0) as (λ _. Says c (Ok v)) [
+    | yes e ↦ let (w, s) = some_verdict e in subst (Says c) (check_one c (Ok w) (Ok v) (says_promise (Ok w) s) p) s
+    | no o ↦ let q : done (judged v) ≡ refused (checker_refusal c) = rw (ne_eqb (checker_refusal c) 0 o) at p in cc
+  ]
+  promise_says (Err r) p = elim (ℕ_discrete (checker_refusal c) 0) as (λ _. Says c (Err r)) [
+    | yes e ↦ let q : refused (number_of r) ≡ done (verdict (collection c) c.given_columns) = rw (eq-eqb (checker_refusal c) 0 e) at p in cc
+    | no o ↦ let q : refused (number_of r) ≡ refused (checker_refusal c) = rw (ne_eqb (checker_refusal c) 0 o) at p in cc
+  ]
 
   -- AN ANSWER IS GIVEN EXACTLY WHERE WHAT IT SAYS HOLDS
-  pub answer_says : (a : Verdict) → Promise c a ↔ Says c a
-  answer_says a = (λ p. let (b, s) = some_answer in subst (Says c) (check_one c b a (says_promise b s) p) s, says_promise a)
+  pub answer_says : (a : Result Verdict Refusal) → Promise c a ↔ Says c a
+  answer_says a = (promise_says a, says_promise a)

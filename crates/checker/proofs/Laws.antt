@@ -2,24 +2,32 @@
 use Prim.Native.Nat.{ℕ, ◌+◌, ◌≤◌, ◌<◌}
 use native.Mathlib.Omega.{arith}
 use native.Mathlib.Nat.{suc-ne-zero}
-use mathlib.Core.Path.{◌≡◌, refl, sym, ap, subst, ◌∙◌}
-use mathlib.Core.Bool.{Bool, true, false, not}
-use mathlib.Core.List.{List, []}
+use native.Mathlib.Decide.{ℕ_discrete}
+use mathlib.Core.Path.{◌≡◌, refl, sym, ap, ◌∙◌}
+use mathlib.Core.Bool.{Bool, true, false, not, ◌||◌}
+use mathlib.Core.List.{List, [], ◌∷◌}
 use lib.ListN.{length}
 use lib.Dec.{leb, eqb, leb→le, eqb→eq}
-use borrow.Author.Tests.{eqb-true, eq-eqb, ne_eqb, lt-ltb, le-ltb, not-true, not-false}
+use borrow.Author.Tests.{eqb-true, eq-eqb, ne_eqb, lt-ltb, le-ltb, not-false}
 use borrow.Author.Count.{below_more}
-use Rattle.graph.specs.Graph.{Graph, Valid, graph, table, rev, edges}
+use Rattle.graph.specs.Graph.{Graph, Valid, rev, edges}
 use Rattle.graph.specs.Refusal.{given, ◌or◌, table_refusal}
-use Rattle.graph.specs.Checker.{Columns, Sized, at, check1, check2, check3, check5, fault, verdict}
+use Rattle.graph.specs.Checker.{Columns, Sized, at, check1, check3, check5, fault, verdict}
 use Rattle.graph.proofs.Tests.{and_split}
-use Rattle.graph.proofs.Chains.{table_turned, valid_rev}
+use Rattle.graph.proofs.Chains.{table_turned}
 use Rattle.graph.proofs.Least.{least_found, least_none}
 use Rattle.graph.proofs.Refusals.{or_none, given_none, or_left_none, Passed, table_passed, passed_valid}
-use Rattle.checker.specs.Contract.{columns, label_and_rank, RankAsk, VertexAsk, EdgeAsk, EdgesAsk, FaultAsk, Ready}
-use Rattle.checker.specs.Promise.{Call, collection, wrong_size, refusal_on, checker_refusal, edge_verdict, outcome, promised_on, Promise, done}
+use Rattle.std.specs.List.{list_any}
+use Rattle.std.specs.Prelude.{Some, None, Ok, Err}
+use Rattle.graph.specs.Table.{graph_of, turned_of}
+use Rattle.graph.specs.declared.table.Table.{Table}
+use Rattle.graph.specs.Reasons.{number_of}
+use Rattle.graph.specs.declared.refusal.Refusal.{Refusal}
+use Rattle.graph.proofs.Reasons.{number_some}
+use Rattle.checker.specs.Contract.{fault_of, label_and_rank, RankAsk, FaultAsk, Ready}
+use Rattle.checker.specs.Promise.{Call, collection, wrong_size, refusal_on, checker_refusal, edge_verdict, judged, outcome, promised_on, Promise}
 use Rattle.checker.specs.declared.Verdict.{Verdict}
-use Rattle.checker.specs.declared.Verdict.TheVariants.{Accepted, Failed, Refused}
+use Rattle.checker.specs.declared.Verdict.TheVariants.{Accepted, Failed}
 
 -- check 1 says that the label is at most v, and its own label
 pub own_says : (c : Columns) (v : ℕ) → check1 c v ≡ true → (at c.label v ≤ v) × (at c.label (at c.label v) ≡ at c.label v)
@@ -29,69 +37,38 @@ own_says c v e =
     let (p, q) = and_split (leb l v) (eqb (at c.label l) l) (rw e tt) in
     (leb→le l v p, eqb→eq (at c.label l) l q)
 
-pub edge_ask : {g : Graph} {kinds label rank : List ℕ} {e : ℕ} → EdgesAsk g kinds label rank → e < edges g → EdgeAsk g kinds label rank e
-edge_ask {e = e} a l =
-    record {
-      kinded = a.kinded;
-      label_size = a.label_size;
-      rank_size = a.rank_size;
-      low = l;
-      long = a.valid.long;
-      same = a.valid.same;
-      leaves = a.valid.from_low e l;
-      enters = a.valid.to_low e l;
-    }
+-- check 4 is check 3 of the turned table
+pub turned_tells : {t u : Table} (label edge dist : List ℕ) (v : ℕ) {r : Bool} → Valid (graph_of t) → u ≡ turned_of t → r ≡ check3 (graph_of u) label edge dist v → r ≡ check3 (rev (graph_of t)) label edge dist v
+turned_tells {t} {u} label edge dist v valid e q =
+    q ∙ ap (λ (u : Table). check3 (graph_of u) label edge dist v) e
+    ∙ ap (λ (g : Graph). check3 g label edge dist v) (table_turned t.n t.sources.now t.targets.now t.kinds.now t.mask valid.same)
 
--- check 4 is check 3 with the table's columns exchanged
-module _ (n : ℕ) (s t kinds : List ℕ) (mask : ℕ) (lab edge dist : List ℕ) (v : ℕ) (x : VertexAsk (table n s t kinds mask) kinds lab edge dist v) where
-  pub turned_ask : VertexAsk (table n t s kinds mask) kinds lab edge dist v
-  turned_ask =
-      let even : length t ≡ length s = x.valid.same in
-      record {
-        valid = subst Valid (sym (table_turned n s t kinds mask even)) (valid_rev x.valid);
-        kinded = record { even = x.kinded.even ∙ sym even; low = λ e l. x.kinded.low e (omega arith) };
-        label_size = x.label_size;
-        edge_size = x.edge_size;
-        distance_size = x.distance_size;
-        low = x.low;
-      }
-
-  pub turned_tells : {r : Bool} → r ≡ check3 (table n t s kinds mask) lab edge dist v → r ≡ check3 (rev (table n s t kinds mask)) lab edge dist v
-  turned_tells q = q ∙ ap (λ (g : Graph). check3 g lab edge dist v) (table_turned n s t kinds mask x.valid.same)
-
--- what fault asks, and what it gives, test by test
-pub rank_ask : {g : Graph} {kinds : List ℕ} {c : Columns} {v : ℕ} → FaultAsk g kinds c v → {a : Bool} → a ≡ check1 (label_and_rank c.label []) v → not a ≡ false → RankAsk g.n c.label c.rank v
-rank_ask {c = c} {v = v} x {a} one p =
+-- what fault asks
+pub rank_ask : {g : Graph} {kinds : List ℕ} {c : Columns} {v : ℕ} → FaultAsk g kinds c v → true ≡ check1 (label_and_rank c.label []) v → RankAsk g.n c.label c.rank v
+rank_ask {c = c} {v = v} x one =
     record {
       label_size = x.ready.sized.label;
       rank_size = x.ready.sized.rank;
       low = x.low;
-      label_low = omega (arith, x.low, (own_says (label_and_rank c.label []) v (sym one ∙ not-false a p)).0);
+      label_low = omega (arith, x.low, (own_says (label_and_rank c.label []) v (sym one)).0);
     }
 
-module _ (g : Graph) (label rank ie id oe od : List ℕ) (v : ℕ) {a : Bool} (one : a ≡ check1 (label_and_rank label []) v) where
-  pub fault_one : not a ≡ true → 1 ≡ fault g (columns label rank ie id oe od) v
-  unfolding fault check1
-  fault_one f = rw (sym one ∙ not-true a f)
+-- some column of a row of six has the wrong size
+pub any_wrong : (n : ℕ) (c : Columns) → list_any (λ column. not (eqb (length column) n)) (c.label ∷ c.rank ∷ c.in_edge ∷ c.in_dist ∷ c.out_edge ∷ c.out_dist ∷ []) ≡ wrong_size n c
+unfolding wrong_size
+any_wrong n c = row (wrong c.label) (wrong c.rank) (wrong c.in_edge) (wrong c.in_dist) (wrong c.out_edge) (wrong c.out_dist)
+  where
+    wrong : List ℕ → Bool
+    wrong column = not (eqb (length column) n)
 
-  module _ (p : not a ≡ false) {b : Bool} (two : b ≡ check2 (graph g.n [] []) (label_and_rank label rank) v) where
-    pub fault_two : not b ≡ true → 2 ≡ fault g (columns label rank ie id oe od) v
-    unfolding fault check1 check2
-    fault_two f = rw (sym one ∙ not-false a p, sym two ∙ not-true b f)
-
-    module _ (q : not b ≡ false) {d : Bool} (three : d ≡ check3 g label ie id v) where
-      pub fault_three : not d ≡ true → 3 ≡ fault g (columns label rank ie id oe od) v
-      unfolding fault check1 check2
-      fault_three f = rw (sym one ∙ not-false a p, sym two ∙ not-false b q, sym three ∙ not-true d f)
-
-      module _ (r : not d ≡ false) {e : Bool} (four : e ≡ check3 (rev g) label oe od v) where
-        pub fault_four : not e ≡ true → 4 ≡ fault g (columns label rank ie id oe od) v
-        unfolding fault check1 check2
-        fault_four f = rw (sym one ∙ not-false a p, sym two ∙ not-false b q, sym three ∙ not-false d r, sym four ∙ not-true e f)
-
-        pub fault_none : not e ≡ false → 0 ≡ fault g (columns label rank ie id oe od) v
-        unfolding fault check1 check2
-        fault_none f = rw (sym one ∙ not-false a p, sym two ∙ not-false b q, sym three ∙ not-false d r, sym four ∙ not-false e f)
+    row : (p q r s t u : Bool) → (p || (q || (r || (s || (t || (u || false)))))) ≡ (((((p || q) || r) || s) || t) || u)
+    row true q r s t u = refl
+    row false true r s t u = refl
+    row false false true s t u = refl
+    row false false false true t u = refl
+    row false false false false true u = refl
+    row false false false false false true = refl
+    row false false false false false false = refl
 
 -- columns of which none has the wrong size
 sized : (n : ℕ) (c : Columns) → wrong_size n c ≡ false → Sized n c
@@ -135,13 +112,13 @@ module _ (c : Call) where
   unfolding refusal_on given ◌or◌
   ready_call e z = rw (e, sizes_pass c.n c.given_columns z)
 
-  pub refused_promise : (k : ℕ) → k ≡ checker_refusal c → (k ≡ 0 → ⊥) → Promise c (Refused k)
+  pub refused_promise : (r : Refusal) → number_of r ≡ checker_refusal c → Promise c (Err r)
   unfolding promised_on outcome
-  refused_promise k e o = rw (← e, ne_eqb k 0 o)
+  refused_promise r e = rw (← e, ne_eqb (number_of r) 0 (number_some r))
 
-  pub judged_promise : (r : Verdict) → checker_refusal c ≡ 0 → outcome r ≡ done (verdict (collection c) c.given_columns) → Promise c r
-  unfolding promised_on
-  judged_promise r e q = rw e q
+  pub judged_promise : (v : Verdict) → checker_refusal c ≡ 0 → judged v ≡ verdict (collection c) c.given_columns → Promise c (Ok v)
+  unfolding promised_on outcome
+  judged_promise v e q = rw (e, q)
 
 -- the verdict of a loop over the edges, and of one over the vertices
 module _ (g : Graph) (c : Columns) where
@@ -151,24 +128,43 @@ module _ (g : Graph) (c : Columns) where
   abbrev pub wrong_edge : ℕ → Bool
   wrong_edge e = not (check5 g c e)
 
-  pub edge_failed : {e : ℕ} {r : Bool} → e < edges g → ((j : ℕ) → j < e → wrong_edge j ≡ false) → r ≡ check5 g c e → not r ≡ true → outcome (Failed 5 e) ≡ done (edge_verdict g c)
-  unfolding outcome edge_verdict
+  -- what the first failed check of a vertex says
+  fault_some : (v : ℕ) {k : ℕ} → Some k ≡ fault_of g c v → (k ≡ fault g c v) × (k ≡ 0 → ⊥)
+  unfolding fault_of
+  fault_some v {k} e = elim (ℕ_discrete (fault g c v) 0) as (λ _. (k ≡ fault g c v) × (k ≡ 0 → ⊥)) [
+    | yes z ↦ let f : Some k ≡ None = rw (eq-eqb (fault g c v) 0 z) at e in cc
+    | no o ↦ let f : Some k ≡ Some (fault g c v) = rw (ne_eqb (fault g c v) 0 o) at e in let q : k ≡ fault g c v = cc in (q, λ z. o (sym q ∙ z))
+  ]
+
+  fault_no : (v : ℕ) → None ≡ fault_of g c v → fault g c v ≡ 0
+  unfolding fault_of
+  fault_no v e = elim (ℕ_discrete (fault g c v) 0) as (λ _. fault g c v ≡ 0) [
+    | yes z ↦ z
+    | no o ↦ let f : None ≡ Some (fault g c v) = rw (ne_eqb (fault g c v) 0 o) at e in cc
+  ]
+
+  pub fault_found : (v : ℕ) {k : ℕ} → k ≡ fault g c v → (k ≡ 0 → ⊥) → Some k ≡ fault_of g c v
+  unfolding fault_of
+  fault_found v {k} e o = rw (← e, ne_eqb k 0 o)
+
+  pub edge_failed : {e : ℕ} {r : Bool} → e < edges g → ((j : ℕ) → j < e → wrong_edge j ≡ false) → r ≡ check5 g c e → not r ≡ true → judged (Failed 5 e) ≡ edge_verdict g c
+  unfolding edge_verdict
   edge_failed {e} l none q t = rw (← (least_found (edges g) wrong_edge e l none (rw (← q, t))), lt-ltb e (edges g) l)
 
   pub edge_passed : {e : ℕ} {r : Bool} → ((j : ℕ) → j < e → wrong_edge j ≡ false) → r ≡ check5 g c e → not r ≡ false → (j : ℕ) → j < e + 1 → wrong_edge j ≡ false
   edge_passed none q t = below_more _ _ none (rw (← q, t))
 
-  pub edges_pass : {e : ℕ} → ((j : ℕ) → j < e → wrong_edge j ≡ false) → edges g ≤ e → outcome Accepted ≡ done (edge_verdict g c)
-  unfolding outcome edge_verdict
+  pub edges_pass : {e : ℕ} → ((j : ℕ) → j < e → wrong_edge j ≡ false) → edges g ≤ e → judged Accepted ≡ edge_verdict g c
+  unfolding edge_verdict
   edges_pass none l = rw (← (least_none (edges g) wrong_edge (λ j h. none j (omega arith))), le-ltb (edges g) (edges g) (omega arith))
 
-  pub vertex_failed : {v k : ℕ} → v < g.n → ((j : ℕ) → j < v → wrong j ≡ false) → k ≡ fault g c v → (k ≡ 0 → ⊥) → outcome (Failed k v) ≡ done (verdict g c)
-  unfolding outcome verdict
-  vertex_failed {v} {k} l none e o = rw (← (least_found g.n wrong v l none (rw (← e, ne_eqb k 0 o))), lt-ltb v g.n l, e)
+  pub vertex_failed : {v k : ℕ} → v < g.n → ((j : ℕ) → j < v → wrong j ≡ false) → Some k ≡ fault_of g c v → judged (Failed k v) ≡ verdict g c
+  unfolding verdict
+  vertex_failed {v} {k} l none q = let (e, o) = fault_some v q in rw (← (least_found g.n wrong v l none (rw (← e, ne_eqb k 0 o))), lt-ltb v g.n l, e)
 
-  pub vertex_passed : {v k : ℕ} → ((j : ℕ) → j < v → wrong j ≡ false) → k ≡ fault g c v → k ≡ 0 → (j : ℕ) → j < v + 1 → wrong j ≡ false
-  vertex_passed none e z = below_more _ _ none (rw (← e, z))
+  pub vertex_passed : {v : ℕ} → ((j : ℕ) → j < v → wrong j ≡ false) → None ≡ fault_of g c v → (j : ℕ) → j < v + 1 → wrong j ≡ false
+  vertex_passed {v} none e = below_more _ _ none (rw (eq-eqb _ _ (fault_no v e)))
 
-  pub vertices_pass : (r : Verdict) {v : ℕ} → ((j : ℕ) → j < v → wrong j ≡ false) → g.n ≤ v → outcome r ≡ done (edge_verdict g c) → outcome r ≡ done (verdict g c)
+  pub vertices_pass : (r : Verdict) {v : ℕ} → ((j : ℕ) → j < v → wrong j ≡ false) → g.n ≤ v → judged r ≡ edge_verdict g c → judged r ≡ verdict g c
   unfolding verdict edge_verdict
   vertices_pass r none l q = rw (← (least_none g.n wrong (λ j h. none j (omega arith))), le-ltb g.n g.n (omega arith)) q

@@ -1,11 +1,20 @@
 -- What the checker's functions may rely on.
-use Rattle.std.specs.Prelude.{ℕ, ◌<◌, ◌≡◌, List, [], length}
+use Rattle.std.specs.Prelude.{ℕ, ◌<◌, ◌≡◌, List, [], length, Option, Some, None, cond, eqb}
 use Rattle.graph.specs.Graph.{Graph, Kinds, Valid, edges, from, to}
-use Rattle.graph.specs.Checker.{Columns, Sized, at}
+use Rattle.graph.specs.Checker.{Columns, Sized, at, fault}
+use Rattle.checker.specs.declared.Columns.{Columns as Lent}
 
 abbrev pub columns : (label rank in_edge in_dist out_edge out_dist : List ℕ) → Columns
 columns label rank in_edge in_dist out_edge out_dist =
     record { label = label; rank = rank; in_edge = in_edge; in_dist = in_dist; out_edge = out_edge; out_dist = out_dist }
+
+-- the columns that are lent
+abbrev pub columns_of : Lent → Columns
+columns_of c = columns c.label.now c.rank.now c.in_edge.now c.in_distance.now c.out_edge.now c.out_distance.now
+
+-- the first of checks 1 to 4 that v fails, if there is one
+unfoldable pub fault_of : Graph → Columns → ℕ → Option ℕ
+fault_of g c v = cond (eqb (fault g c v) 0) None (Some (fault g c v))
 
 -- the two columns that checks 1, 2 and 5 read
 abbrev pub label_and_rank : List ℕ → List ℕ → Columns

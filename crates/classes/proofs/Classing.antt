@@ -11,7 +11,6 @@ use lib.Seq.{get_or-set_same, get_or-set_other}
 use mir.Syntax.{w32}
 use mir.Val.{Fits}
 use borrow.Author.Tests.{eq-eqb, le-leb, not-true, not-false}
-use borrow.Author.Count.{below_more}
 use Rattle.graph.specs.Graph.{Graph, Chain}
 use Rattle.graph.specs.Arrows.{Arrows, on}
 use Rattle.graph.specs.Parts.{Fwd, only}
@@ -25,7 +24,10 @@ use Rattle.memory.specs.Memory.{region, Framed}
 use Rattle.classes.specs.Classes.{class, OwnLabels, Near}
 use Rattle.checker.specs.Contract.{label_and_rank}
 use Rattle.checker.proofs.Laws.{own_says}
-use Rattle.classes.specs.Search.{ColourAsk, Coloured, Placed, Sorted, DistancesAsk, ClassAsk, Classed, AllFound, Measured}
+use Rattle.std.specs.Bool.{MatchBool}
+use Rattle.std.specs.List.{range_with_len, AllWithin, HoldsAt}
+use Rattle.std.proofs.lemmas.List.FromFn.{get_or-range_with_len, length-range_with_len}
+use Rattle.classes.specs.Search.{Owned, ColourAsk, Coloured, Placed, Sorted, DistancesAsk, ClassAsk, Classed, AllFound, Measured}
 
 pub clash : (r : Bool) → r ≡ true → r ≡ false → ⊥
 clash r p q = let z : ◌≡◌ {A = ℕ} 0 1 = cc in omega arith
@@ -40,14 +42,22 @@ module _ {A B : Type 0} {r : Bool} where
   unless (inl (p, _)) q = absurd (clash r p (not-true r q))
   unless (inr (_, b)) q = b
 
--- a vertex that fails check 1, and one more that passes it
-module _ (lab : List ℕ) {v : ℕ} {r : Bool} (told : r ≡ check1 (label_and_rank lab []) v) where
-  pub own_no : {n : ℕ} → v < n → not r ≡ true → OwnLabels n lab → ⊥
-  unfolding check1
-  own_no l q o = let (p, z) = o v l in clash r (told ∙ rw (le-leb _ _ p, eq-eqb _ _ z)) (not-true r q)
+-- what a test of each vertex in turn says of check 1
+abbrev pub Passes : List ℕ → Bool → ℕ → Type 0
+Passes lab r v = r ≡ check1 (label_and_rank lab []) v
 
-  pub own_yes : OwnLabels v lab → not r ≡ false → OwnLabels (v + 1) lab
-  own_yes below q = below_more _ _ below (own_says (label_and_rank lab []) v (sym told ∙ not-false r q))
+own_no : (lab : List ℕ) {v n : ℕ} → v < n → Passes lab false v → OwnLabels n lab → ⊥
+unfolding check1
+own_no lab {v} l fails o = let (p, z) = o v l in clash (check1 (label_and_rank lab []) v) (rw (le-leb _ _ p, eq-eqb _ _ z)) (sym fails)
+
+place : (n k : ℕ) → k < n → get_or (range_with_len 0 n) k 0 ≡ k
+place n k l = get_or-range_with_len 0 n k 0 l ∙ omega arith
+
+pub own_told : (lab : List ℕ) (n : ℕ) (r : Bool)
+    → MatchBool r (AllWithin (Passes lab true) (range_with_len 0 n) 0 (length (range_with_len 0 n))) ((k : ℕ) × (k < length (range_with_len 0 n)) × HoldsAt (Passes lab false) (range_with_len 0 n) k)
+    → Owned n lab r
+own_told lab n true all = inl (refl, λ v l. own_says (label_and_rank lab []) v (sym (rw (place n v l) at (all v 0 (omega arith) (rw (length-range_with_len 0 n) l)))))
+own_told lab n false (k, l, fails) = let m : k < n = rw (length-range_with_len 0 n) at l in inr (refl, own_no lab m (rw (place n k m) at (fails 0)))
 
 module _ {n : ℕ} {lab : List ℕ} {b : ℕ} {w₀ : List ℕ} (a : ColourAsk n lab b w₀) where
   pub colour_none : Coloured n lab b 0 w₀ w₀

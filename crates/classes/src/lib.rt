@@ -6,81 +6,63 @@ ghost use Rattle.graph.specs.Arrows.{Some, Every};
 ghost use Rattle.classes.specs.Search.{Owned, ColourAsk, Coloured, ClassAsk, Classed, AllFound, DistancesAsk, Measured};
 
 use checker::checks;
+use memory::layout::Direction;
 use paint::distances as measuring;
 
 // Does every vertex pass check 1?
-pub fn own_labels(n: usize, label: &[u32]) -> bool
-    requires { length label.now ≡ n }
-    ensures { Owned n label.now result }
+pub fn own_labels(label: &[u32]) -> bool
+    ensures { Owned (length label.now) label.now result }
 {
-    let mut v = 0;
-    while v < n {
-        if !checks::labelled(label, v) {
-            return false;
-        }
-        v += 1;
-    }
-    true
+    (0..label.len()).all(|v| checks::labelled(label, v))
 }
 
 // Each vertex gets the colour of its class, n + 1 + its label: no distance is as high.
-fn colour(n: usize, label: &[u32], w: &mut [u32], b: usize)
-    requires { ColourAsk n label.now b w.old }
-    ensures { Coloured n label.now b n w.old w.new }
+fn colour(w: &mut [u32], along: Direction, label: &[u32])
+    requires { ColourAsk along.n label.now along.base w.old }
+    ensures { Coloured along.n label.now along.base along.n w.old w.new }
 {
-    let mut v = 0;
-    while v < n {
-        w[b + v] = (n + 1) as u32 + label[v];
-        v += 1;
+    for (v, l) in label.iter().enumerate() {
+        w[along.base + v] = (along.n + 1) as u32 + *l;
     }
 }
 
 // If l is a label, the vertices of its class get their distances from it.
-fn class(n: usize, label: &[u32], w: &mut [u32], ix: usize, b: usize, l: usize)
-    requires { Some n (λ g. ClassAsk g label.now ix b l w.old) × (l < n) }
-    ensures { Every n (λ g. ClassAsk g label.now ix b l w.old → Classed g label.now b (l + 1) w.old w.new) }
+fn class(w: &mut [u32], along: Direction, label: &[u32], l: usize)
+    requires { Some along.n (λ g. ClassAsk g label.now along.index along.base l w.old) × (l < along.n) }
+    ensures { Every along.n (λ g. ClassAsk g label.now along.index along.base l w.old → Classed g label.now along.base (l + 1) w.old w.new) }
 {
-    let x = label[l] as usize;
-    if x != l {
+    if label[l] as usize != l {
         return;
     }
-    measuring::measure(n, w, ix, b, l, (n + 1 + l) as u32);
+    measuring::measure(w, along, l, (along.n + 1 + l) as u32);
 }
 
 // One class after the other.
-fn classes(n: usize, label: &[u32], w: &mut [u32], ix: usize, b: usize)
-    requires { Some n (λ g. ClassAsk g label.now ix b 0 w.old) }
-    ensures { Every n (λ g. ClassAsk g label.now ix b 0 w.old → Classed g label.now b n w.old w.new) }
+fn classes(w: &mut [u32], along: Direction, label: &[u32])
+    requires { Some along.n (λ g. ClassAsk g label.now along.index along.base 0 w.old) }
+    ensures { Every along.n (λ g. ClassAsk g label.now along.index along.base 0 w.old → Classed g label.now along.base along.n w.old w.new) }
 {
-    let mut l = 0;
-    while l < n {
-        class(n, label, w, ix, b, l);
-        l += 1;
+    for l in 0..along.n {
+        class(w, along, label, l);
     }
 }
 
 // Has every vertex a distance?
-fn found(n: usize, w: &[u32], b: usize) -> bool
-    requires { b + n ≤ length w.now }
-    ensures { AllFound n b w.now result }
+fn found(w: &[u32], along: Direction) -> bool
+    requires { along.base + along.n ≤ length w.now }
+    ensures { AllFound along.n along.base w.now result }
 {
-    let mut v = 0;
-    while v < n {
-        let x = w[b + v] as usize;
-        if n < x {
-            return false;
-        }
-        v += 1;
-    }
-    true
+    w[along.base..along.base + along.n]
+        .iter()
+        .all(|y| *y as usize <= along.n)
 }
 
 // The distances from the labels; false if some vertex is not reached inside its class.
-pub fn distances(n: usize, label: &[u32], w: &mut [u32], ix: usize, b: usize) -> bool
-    requires { Some n (λ g. DistancesAsk g label.now ix b w.old) }
-    ensures { Every n (λ g. DistancesAsk g label.now ix b w.old → Measured g label.now b w.old w.new result) }
+pub fn distances(w: &mut [u32], along: Direction, label: &[u32]) -> bool
+    requires { Some along.n (λ g. DistancesAsk g label.now along.index along.base w.old) }
+    ensures { Every along.n (λ g. DistancesAsk g label.now along.index along.base w.old → Measured g label.now along.base w.old w.new result) }
 {
-    colour(n, label, w, b);
-    classes(n, label, w, ix, b);
-    found(n, w, b)
+    colour(w, along, label);
+    classes(w, along, label);
+    found(w, along)
 }

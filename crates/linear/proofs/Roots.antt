@@ -12,7 +12,7 @@ use Rattle.graph.specs.Limits.{most_vertices}
 use Rattle.graph.specs.Numbers.{tally}
 use Rattle.graph.proofs.Sums.{tally_none}
 use Rattle.graph.proofs.Chains.{edge_from_low}
-use Rattle.memory.specs.Memory.{Framed, Filled}
+use Rattle.memory.specs.Memory.{Framed}
 use Rattle.memory.proofs.Memory.{framed_none, framed_more, set_framed}
 use Rattle.index.specs.Index.{start, first}
 use Rattle.index.specs.Build.{OneAsk, One}
@@ -26,14 +26,10 @@ use Rattle.linear.specs.Search.{stand, resting, alone, path_at, cursor_at, left_
 use Rattle.linear.proofs.Moved.{offs_rise, moved}
 use Rattle.linear.proofs.Step.{empty, pushed}
 use Rattle.linear.proofs.Keeping.{kept_none, kept_more, onto_here, offs_same, others_same, setting_same, searching}
+use Rattle.linear.proofs.Working.{searching_stand}
 use Rattle.linear.proofs.Left.{cost_unseen, cost_seen, cost_gone}
 
 -- A RUN
--- where the search stands, whatever steps led there
-searching_stand : {g : Graph} {b : ℕ} {x : Stand} {l w : List ℕ} → Searching g b x l w → Searching g b (stand x.stack x.fronts x.path x.top x.cursor x.end) l w
-searching_stand {g} {b} {x} {l} {w} y =
-    searching y (framed_none b (b + 4 * g.n) w) (stand x.stack x.fronts x.path x.top x.cursor x.end) l refl y.ends y.between (omega arith)
-
 -- t steps lead from r alone to x
 pub record Running (g : Graph) (b r : ℕ) (l w : List ℕ) (x : Stand) (l' w' : List ℕ) (t : ℕ) : Type 0 where
   pub next : Searching g b x l' w'
@@ -51,8 +47,8 @@ module _ {g : Graph} {b r t : ℕ} {x : Stand} {l w l₁ w₁ : List ℕ} (z : R
   pub run_ask : 0 < x.path → StepAsk g b x l₁ w₁
   run_ask h = record { known = z.next; some = h }
 
-  pub run_step : {y : Stand} {l₂ w₂ : List ℕ} → Stepped g b x l₁ w₁ l₂ w₂ y → Running g b r l w (stand y.stack y.fronts y.path y.top y.cursor y.end) l₂ w₂ (t + y.steps)
-  run_step s = record { next = searching_stand s.next; kept = kept_more z.kept s.kept; work = omega (arith, z.work, s.work) }
+  pub run_step : {y : Stand} {l₂ w₂ : List ℕ} → Stepped g b x l₁ w₁ l₂ w₂ y → Running g b r l w y l₂ w₂ (t + y.steps)
+  run_step s = record { next = s.next; kept = kept_more z.kept s.kept; work = omega (arith, z.work, s.work) }
 
   -- the steps are few
   pub run_few : RunAsk g b r l w → t ≤ 5 * g.n + edges g
@@ -74,15 +70,12 @@ at_rest {g} {b} {u} {c} {h} {l} {w} x =
     }) x.between)
     (omega arith)
 
-rested : {g : Graph} {b r t u c h : ℕ} {l w l' w' : List ℕ} → Running g b r l w (stand 0 0 0 u c h) l' w' t → Ran g b r l w l' w' t
+pub run_end : {g : Graph} {b r t : ℕ} {x : Stand} {l w l' w' : List ℕ} → x.path ≡ 0 → Running g b r l w x l' w' t → Ran g b r l w l' w' t
 unfolding tally
-rested x = record { next = at_rest x.next; kept = x.kept; work = x.work }
-
-pub run_end : {g : Graph} {b r t s k p u c h : ℕ} {l w l' w' : List ℕ} → p ≡ 0 → Running g b r l w (stand s k p u c h) l' w' t → Ran g b r l w l' w' t
-run_end {g} {b} {r} {t} {s} {k} {p} {u} {c} {h} {l} {w} {l'} {w'} e x =
-    let (es, ek) = empty x.next.setting x.next.between e in
-    let y : Running g b r l w (stand 0 0 0 u c h) l' w' t = rw (es, ek, e) at x in
-    rested y
+run_end {g} {b} {x = x} {l' = l'} {w' = w'} e z =
+    let (es, ek) = empty z.next.setting z.next.between e in
+    let rest : Searching g b (stand 0 0 0 x.top x.cursor x.end) l' w' = rw (es, ek, e) at (searching_stand z.next) in
+    record { next = at_rest rest; kept = z.kept; work = rw (es, ek, e) at z.work }
 
 -- A ROOT
 pub root_seen : {g : Graph} {b r : ℕ} {l w : List ℕ} → RootAsk g b r l w → (hue_of l r ≡ g.n → ⊥) → Rooted g b r l w l w 1
@@ -239,9 +232,9 @@ cost_all n off col (suc k) f e =
 pub find_ask : {g : Graph} {kinds l w : List ℕ} → FindAsk g kinds l w → OneAsk g kinds w
 find_ask a = record { kinded = a.kinded; column = valid_column a.valid a.small a.few; even = a.valid.same; room = omega (arith, a.room) }
 
-module _ {g : Graph} {kinds l w l₁ w₁ : List ℕ} (a : FindAsk g kinds l w) (x : One g w w₁) (f : Filled 0 g.n g.n l l₁) where
+module _ {g : Graph} {kinds l w w₁ : List ℕ} (l₁ : List ℕ) (a : FindAsk g kinds l w) (x : One g w w₁) (long : length l₁ ≡ length l) (each : (v : ℕ) → v < length l → hue_of l₁ v ≡ g.n) where
   blank : (v : ℕ) → v < g.n → hue_of l₁ v ≡ g.n
-  blank v m = ap (hue_of l₁) (omega arith) ∙ f.each v m
+  blank v m = each v (omega (arith, a.column))
 
   setting₁ : Setting g (off_of w₁) (other_of g.n w₁)
   setting₁ =
@@ -271,7 +264,7 @@ module _ {g : Graph} {kinds l w l₁ w₁ : List ℕ} (a : FindAsk g kinds l w) 
         few = a.few;
         behind = omega arith;
         room = omega (arith, a.room, x.long);
-        column = f.framed.long ∙ a.column;
+        column = long ∙ a.column;
         ends = λ m. absurd (omega arith);
         between =
             record {

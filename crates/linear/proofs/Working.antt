@@ -12,10 +12,9 @@ use Rattle.graph.proofs.Chains.{reach_edge, reach_join}
 use Rattle.memory.specs.Memory.{Framed}
 use Rattle.memory.proofs.Memory.{framed_none}
 use Rattle.moves.specs.declared.Stand.{Stand}
-use Rattle.moves.specs.declared.segments.Sizes.{Sizes}
 use Rattle.linear.specs.Path.{Setting, Ahead, Between}
 use Rattle.moves.specs.Moves.{hue_of, off_of, other_of, stack_of, front_of, path_of, cursor_of, Lowest, Painted, CloseAsk, Closed, EnterAsk, entered_colours, entered, entered_stand, BackAsk, Backed, ScanAsk, Scanned}
-use Rattle.linear.specs.Search.{stand, onto, path_at, cursor_at, left_of, StepAsk, Stepped}
+use Rattle.linear.specs.Search.{stand, onto, path_at, cursor_at, left_of, Searching, StepAsk, Stepped}
 use Rattle.linear.proofs.Moved.{place_low, edge_here, other_low, Agree, moved}
 use Rattle.linear.proofs.Step.{hue_low, all_to_top, fronts_few, path_few, stack_few, stack_room, joined, advanced, finished, pushed}
 use Rattle.linear.proofs.Closing.{closed}
@@ -31,6 +30,17 @@ pub record Shrunk (g : Graph) (b s f p u d : ℕ) (l w l' : List ℕ) (t i : ℕ
   pub unseen : (v : ℕ) → v < g.n → hue_of l v ≡ g.n → hue_of l' v ≡ g.n
   pub stack : t ≤ s
   pub fronts : i ≤ f
+
+-- WHATEVER STEPS LED TO x
+module _ {g : Graph} {b : ℕ} {x : Stand} {l w : List ℕ} where
+  pub searching_stand : Searching g b x l w → Searching g b (stand x.stack x.fronts x.path x.top x.cursor x.end) l w
+  searching_stand y = searching y (framed_none b (b + 4 * g.n) w) (stand x.stack x.fronts x.path x.top x.cursor x.end) l refl y.ends y.between (omega arith)
+
+  pub step_of : StepAsk g b x l w → StepAsk g b (stand x.stack x.fronts x.path x.top x.cursor x.end) l w
+  step_of a = record { known = searching_stand a.known; some = a.some }
+
+  pub stepped_of : {l' w' : List ℕ} {r : Stand} → Stepped g b (stand x.stack x.fronts x.path x.top x.cursor x.end) l w l' w' r → Stepped g b x l w l' w' r
+  stepped_of z = record { next = z.next; kept = z.kept; work = z.work; some = z.some }
 
 -- AT THE PATH'S LAST u
 module _ {g : Graph} {b s k p u c h : ℕ} {l w : List ℕ} (a : StepAsk g b (stand s k p u c h) l w) where
@@ -233,7 +243,7 @@ module _ {g : Graph} {b s k p u c h : ℕ} {l w : List ℕ} (a : StepAsk g b (st
               fronts = omega arith;
             }
 
-      pub shrunk : {l' : List ℕ} {r : Sizes} → Closed g.n b u s f w l l' r → Shrunk g b s f p u d l w l' r.stack r.fronts
+      pub shrunk : {l' : List ℕ} {t i : ℕ} → Closed g.n b u s f w l l' t i → Shrunk g b s f p u d l w l' t i
       shrunk (inl (o, e, i, j)) = rw (e, i, j) (finished_off o)
       shrunk (inr (e, i, j, (x, low, q))) = rw j (closed_off e i low q)
 

@@ -1,6 +1,7 @@
 -- The linear engine as callers see it.
 use Rattle.std.specs.Prelude.{ℕ, ◌≡◌, not, List, [], length, eqb}
 use Rattle.graph.specs.Graph.{Graph, table}
+use Rattle.graph.specs.declared.table.Table.{Table}
 use Rattle.graph.specs.Search.{labels}
 use Rattle.graph.specs.Limits.{numbers_needed, words_needed, wrong_length, memory_short}
 use Rattle.graph.specs.Refusal.{given, ◌or◌, table_refusal, lacking}
@@ -16,6 +17,19 @@ pub record Call : Type 0 where
   pub label : List ℕ
   pub numbers : List ℕ
   pub words : List ℕ
+
+-- the call on a lent table
+abbrev pub call : Table → (label numbers words : List ℕ) → Call
+call t label numbers words = record {
+  n = t.n;
+  sources = t.sources.now;
+  targets = t.targets.now;
+  kinds = t.kinds.now;
+  mask = t.mask;
+  label = label;
+  numbers = numbers;
+  words = words;
+}
 
 -- k, the number by which the table's check refuses; if it is 0, the first of 5, 6 that applies, else 0
 unfoldable pub refusal_on : ℕ → Call → ℕ

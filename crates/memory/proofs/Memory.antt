@@ -3,11 +3,11 @@ use Prim.Native.Nat.{ℕ, suc, ◌+◌, ◌≤◌, ◌<◌}
 use native.Mathlib.Omega.{arith}
 use native.Mathlib.Decide.{ℕ_discrete, dec_lt}
 use mathlib.Core.Path.{◌≡◌, refl, sym, ap, ◌∙◌}
-use mathlib.Core.Logic.{inl, inr, by_cases}
+use mathlib.Core.Logic.{by_cases}
 use mathlib.Core.List.{List}
 use lib.ListN.{length, get_or, set, length-set}
 use lib.Seq.{ext_get_or, get_or-set_same, get_or-set_other}
-use Rattle.memory.specs.Memory.{Zeroed, Framed, Put, Filled, Raised}
+use Rattle.memory.specs.Memory.{Zeroed, Framed, Put, Filled}
 use Rattle.memory.specs.Decomposer.{Touched, Inside}
 
 pub zeroed_one : {k : ℕ} {w a b : List ℕ} → Zeroed k w a → Zeroed k w b → a ≡ b
@@ -69,11 +69,3 @@ filled_zeroed {k} {w} {w'} p =
       front = λ j l. ap (λ (x : ℕ). get_or w' x 0) (omega arith) ∙ p.each j l;
       rest = λ j l. p.framed.high j (omega arith);
     }
-
-pub raise_none : (p x : ℕ) (w : List ℕ) → x ≤ get_or w p 0 → Raised p x w w
-raise_none p x w l = record { framed = framed_none p (suc p) w; up = omega arith; over = l; either = inl refl }
-
-pub raise_set : (p x : ℕ) (w : List ℕ) → p < length w → get_or w p 0 < x → Raised p x w (set w p x)
-raise_set p x w l h =
-    let e : get_or (set w p x) p 0 ≡ x = get_or-set_same w p x 0 l in
-    record { framed = set_framed w p (suc p) p x (omega arith) (omega arith); up = omega arith; over = omega arith; either = inr e }

@@ -15,11 +15,7 @@ pub fn fill(w: &mut [u32], a: usize, n: usize, x: u32)
     requires { a + n ≤ length w.old }
     ensures { Filled a n x w.old w.new }
 {
-    let mut i = 0;
-    while i < n {
-        w[a + i] = x;
-        i += 1;
-    }
+    w[a..a + n].fill(x);
 }
 
 // The len places from a on become first, first + 1, ..
@@ -27,10 +23,8 @@ pub fn count(w: &mut [u32], a: usize, len: usize, first: usize)
     requires { CountAsk a len first w.old }
     ensures { Put a len (λ i. i + first) w.old w.new }
 {
-    let mut i = 0;
-    while i < len {
+    for i in 0..len {
         w[a + i] = (i + first) as u32;
-        i += 1;
     }
 }
 
@@ -39,11 +33,7 @@ pub fn copy(w: &[u32], a: usize, column: &mut [u32])
     requires { a + length column.old ≤ length w.now }
     ensures { Copied w.now a column.old column.new }
 {
-    let mut i = 0;
-    while i < column.len() {
-        column[i] = w[a + i];
-        i += 1;
-    }
+    column.copy_from_slice(&w[a..a + column.len()]);
 }
 
 // Place p becomes x where it is less.
@@ -51,10 +41,7 @@ pub fn raise(w: &mut [u32], p: usize, x: u32)
     requires { p < length w.old }
     ensures { Raised p x w.old w.new }
 {
-    if x <= w[p] {
-        return;
-    }
-    w[p] = x;
+    w[p] = w[p].max(x);
 }
 
 // The first k words become 0.
@@ -62,11 +49,7 @@ pub fn zero_words(w: &mut [u64], k: usize)
     requires { k ≤ length w.old }
     ensures { Zeroed k w.old w.new }
 {
-    let mut i = 0;
-    while i < k {
-        w[i] = 0;
-        i += 1;
-    }
+    w[..k].fill(0);
 }
 
 // The working memory that n vertices and m edges need becomes 0.

@@ -3,28 +3,12 @@ use Prim.Native.Nat.{ℕ, ◌+◌, ◌-◌, ◌≤◌, ◌<◌}
 use native.Mathlib.Omega.{arith}
 use native.Mathlib.Decide.{ℕ_discrete}
 use mathlib.Core.Path.{◌≡◌, refl, sym, ap, ◌∙◌}
-use mathlib.Core.Logic.{⊎_elim, by_cases}
+use mathlib.Core.Logic.{by_cases}
 use mathlib.Core.List.{List}
 use lib.ListN.{length, get_or, set, length-set}
 use lib.Seq.{get_or-set_same, get_or-set_other}
-use Rattle.moves.specs.Moves.{hue_of, Lower, Lowest, PaintAsk, Painted, CloseAsk}
-
--- the smallest of those from a up to i
-module _ (w : List ℕ) (a : ℕ) where
-  pub lowest_one : Lowest a (a + 1) w (get_or w a 0)
-  lowest_one = record {
-    found = (a, omega arith, omega arith, refl);
-    least = λ j p q. let e : j ≡ a = omega arith in rw e (omega arith);
-  }
-
-  pub lowest_step : (i x r : ℕ) → a < i → Lowest a i w x → Lower (get_or w i 0) x r → Lowest a (i + 1) w r
-  lowest_step i x r h z y = record {
-    found = ⊎_elim (λ e. (i, omega arith, omega arith, e)) (λ e. let (j, p, q, f) = z.found in (j, p, omega arith, e ∙ f)) y.either;
-    least = λ j p q. by_cases (ℕ_discrete j i) (λ e. rw e y.one) (λ o. omega (arith, z.least j p (omega arith), y.two));
-  }
-
-  pub lowest_all : (i e x : ℕ) → i ≡ e → Lowest a i w x → Lowest a e w x
-  lowest_all i e x q z = rw (← q) z
+use Rattle.moves.proofs.Parts.{part, part_long, part_at, part_of}
+use Rattle.moves.specs.Moves.{hue_of, Lowest, PaintAsk, Painted, CloseAsk}
 
 -- those from a up to i have the colour x
 pub paint_none : (a x : ℕ) (w l : List ℕ) → Painted a a x w l l
@@ -46,8 +30,37 @@ module _ {a e x : ℕ} {l₀ w : List ℕ} (ask : PaintAsk a e l₀ w) (i : ℕ)
         else = λ v o. get_or-set_other l u v x 0 (λ e. o i order (omega arith) (sym e)) ∙ z.else v (λ j p q. o j p (omega arith));
       }
 
-pub paint_all : {a e x : ℕ} {w l₀ l : List ℕ} (i : ℕ) → i ≡ e → Painted a i x w l₀ l → Painted a e x w l₀ l
-paint_all i q z = rw (← q) z
+-- what is said of a part by itself is said of it in the memory
+module _ {w : List ℕ} {a e : ℕ} (order : a ≤ e) (fits : e ≤ length w) where
+  pub paint_part : {l : List ℕ} → PaintAsk a e l w → PaintAsk 0 (length (part w a e)) l (part w a e)
+  paint_part ask = record {
+    order = omega arith;
+    room = omega arith;
+    vertex = λ j p q. let h : j < e - a = omega (arith, part_long w a e fits) in rw (part_at w a e fits j h) (ask.vertex (a + j) (omega arith) (omega arith));
+  }
+
+  pub lowest_part : {r : ℕ} → Lowest 0 (length (part w a e)) (part w a e) r → Lowest a e w r
+  lowest_part {r} z = record {
+    found = let (j, _, q, s) = z.found in (a + j, omega arith, omega (arith, part_long w a e fits), s ∙ part_at w a e fits j (omega (arith, part_long w a e fits)));
+    least = λ j p q. let h : r ≤ get_or (part w a e) (j - a) 0 = z.least (j - a) (omega arith) (omega (arith, part_long w a e fits)) in omega (arith, h, part_of w a e fits j p q);
+  }
+
+  pub painted_part : {x : ℕ} {l l' : List ℕ} → Painted 0 (length (part w a e)) x (part w a e) l l' → Painted a e x w l l'
+  painted_part {x} {l} {l'} z = record {
+    long = z.long;
+    here = λ j p q. sym (ap (hue_of l') (part_of w a e fits j p q)) ∙ z.here (j - a) (omega arith) (omega (arith, part_long w a e fits));
+    else = λ v o. z.else v (λ j p q s. let h : j < e - a = omega (arith, part_long w a e fits) in o (a + j) (omega arith) (omega arith) (sym (part_at w a e fits j h) ∙ s));
+  }
+
+module _ {n b u s k : ℕ} {l w : List ℕ} (ask : CloseAsk n b u s k l w) where
+  pub close_order : b + (hue_of l u - (n + 1)) ≤ b + s
+  close_order = omega (arith, ask.above, ask.below)
+
+  pub close_room : b + s ≤ length w
+  close_room = omega (arith, ask.room, ask.stack)
+
+  pub close_some : 0 < length (part w (b + (hue_of l u - (n + 1))) (b + s))
+  close_some = omega (arith, part_long w (b + (hue_of l u - (n + 1))) (b + s) close_room, ask.above, ask.below)
 
 -- who stands in the segment is a vertex
 pub close_paint : {n b u s k : ℕ} {l w : List ℕ} → CloseAsk n b u s k l w → PaintAsk (b + (hue_of l u - (n + 1))) (b + s) l w

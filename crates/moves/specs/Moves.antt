@@ -2,7 +2,12 @@
 use Rattle.std.specs.Prelude.{ℕ, ◌+◌, ◌*◌, ◌-◌, ◌≤◌, ◌<◌, ◌≡◌, List, ◌⊎◌, length, get_or, set}
 use Rattle.graph.specs.Limits.{most_vertices, most_edges}
 use Rattle.moves.specs.declared.Stand.{Stand}
-use Rattle.moves.specs.declared.segments.Sizes.{Sizes}
+
+-- the path, its last and the end of its edges are as they were
+pub record Stays (x r : Stand) : Type 0 where
+  pub path : r.path ≡ x.path
+  pub top : r.top ≡ x.top
+  pub end : r.end ≡ x.end
 
 -- the colour of v; where v's neighbours begin; the neighbour at place c of the index; who stands at place i of the stack
 abbrev pub hue_of : List ℕ → ℕ → ℕ
@@ -28,36 +33,25 @@ path_of n b w q = get_or w (b + 2 * n + 2 * q) 0
 abbrev pub cursor_of : (n b : ℕ) → List ℕ → ℕ → ℕ
 cursor_of n b w q = get_or w (b + 2 * n + 2 * q + 1) 0
 
-pub record CutAsk (a k y : ℕ) (w : List ℕ) : Type 0 where
-  pub some : 0 < k
-  pub room : a + k ≤ length w
-  pub first : get_or w (a + 0) 0 ≤ y
+pub record CutAsk (y : ℕ) (fronts : List ℕ) : Type 0 where
+  pub some : 0 < length fronts
+  pub first : get_or fronts 0 0 ≤ y
 
--- r of k numbers are left, the last at most y, and those taken off are greater
-pub record Cut (a k y : ℕ) (w : List ℕ) (r : ℕ) : Type 0 where
+-- r of the fronts are left, the last at most y, and those taken off are greater
+pub record Cut (y : ℕ) (fronts : List ℕ) (r : ℕ) : Type 0 where
   pub some : 0 < r
-  pub most : r ≤ k
-  pub last : get_or w (a + (r - 1)) 0 ≤ y
-  pub past : (j : ℕ) → r ≤ j → j < k → y < get_or w (a + j) 0
+  pub most : r ≤ length fronts
+  pub last : get_or fronts (r - 1) 0 ≤ y
+  pub past : (j : ℕ) → r ≤ j → j < length fronts → y < get_or fronts j 0
 
-pub record BoundAsk (n a k y : ℕ) (w : List ℕ) : Type 0 where
-  pub some : 0 < k
-  pub room : a + k ≤ length w
-  pub first : n < y → get_or w (a + 0) 0 ≤ y
+pub record BoundAsk (n y : ℕ) (fronts : List ℕ) : Type 0 where
+  pub some : 0 < length fronts
+  pub first : n < y → get_or fronts 0 0 ≤ y
   pub seen : y ≡ n → ⊥
 
 -- y is a done vertex's colour, and the fronts stay; or one of the stack, and those behind it are taken off
-abbrev pub Bound : (n a k y : ℕ) → List ℕ → ℕ → Type 0
-Bound n a k y w r = ((y < n) × (r ≡ k)) ⊎ ((n < y) × Cut a k y w r)
-
-pub record Lower (x y r : ℕ) : Type 0 where
-  pub one : r ≤ x
-  pub two : r ≤ y
-  pub either : (r ≡ x) ⊎ (r ≡ y)
-
-pub record LowestAsk (a e : ℕ) (w : List ℕ) : Type 0 where
-  pub some : a < e
-  pub room : e ≤ length w
+abbrev pub Bound : (n y : ℕ) → List ℕ → ℕ → Type 0
+Bound n y fronts r = ((y < n) × (r ≡ length fronts)) ⊎ ((n < y) × Cut y fronts r)
 
 -- r is the smallest of the numbers from a up to e
 pub record Lowest (a e : ℕ) (w : List ℕ) (r : ℕ) : Type 0 where
@@ -88,13 +82,13 @@ pub record CloseAsk (n b u s k : ℕ) (l w : List ℕ) : Type 0 where
   pub low : (i : ℕ) → i < s → stack_of b w i < n
 
 -- u begins no segment, and nothing has changed; or it begins the last, and those from its place on have their smallest for a colour
-abbrev pub Closed : (n b u s k : ℕ) (w l l' : List ℕ) → Sizes → Type 0
-Closed n b u s k w l l' r =
-    ((hue_of l u ≡ front_of n b w (k - 1) → ⊥) × (l' ≡ l) × (r.stack ≡ s) × (r.fronts ≡ k))
+abbrev pub Closed : (n b u s k : ℕ) (w l l' : List ℕ) (t i : ℕ) → Type 0
+Closed n b u s k w l l' t i =
+    ((hue_of l u ≡ front_of n b w (k - 1) → ⊥) × (l' ≡ l) × (t ≡ s) × (i ≡ k))
     ⊎ ((hue_of l u ≡ front_of n b w (k - 1))
-    × (r.stack ≡ hue_of l u - (n + 1))
-    × (r.fronts ≡ k - 1)
-    × ((x : ℕ) × Lowest (b + r.stack) (b + s) w x × Painted (b + r.stack) (b + s) x w l l'))
+    × (t ≡ hue_of l u - (n + 1))
+    × (i ≡ k - 1)
+    × ((x : ℕ) × Lowest (b + t) (b + s) w x × Painted (b + t) (b + s) x w l l'))
 
 pub record BeginAsk (n b r : ℕ) (l w : List ℕ) : Type 0 where
   pub small : n ≤ most_vertices

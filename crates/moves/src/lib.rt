@@ -4,6 +4,13 @@
 pub mod segments;
 pub mod stores;
 
+// Where the search's memory stands: behind the index of n vertices, from `base` on, n places of the stack, n of the fronts and 2 n of the path.
+#[derive(Clone, Copy)]
+pub struct Regions {
+    pub n: usize,
+    pub base: usize,
+}
+
 // Where the search stands: how many are on the stack, segments of it, how many on the path; the path's last vertex, its next edge and the end of its edges. The steps that the call counted which led here.
 #[derive(Clone, Copy)]
 pub struct Stand {

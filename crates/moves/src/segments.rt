@@ -1,128 +1,93 @@
 // The stack's segments: each is a part of one component as far as the search has seen. Joining them, and closing the last.
-ghost use Rattle.moves.specs.Moves.{ScanAsk, Scanned, CutAsk, Cut, BoundAsk, Bound, Lower, LowestAsk, Lowest, PaintAsk, Painted, CloseAsk, Closed};
+ghost use Rattle.std.specs.Prelude.{◌≡◌, ◌<◌, length};
+ghost use Rattle.moves.specs.Moves.{Stays, ScanAsk, Scanned, CutAsk, Cut, BoundAsk, Bound, Lowest, PaintAsk, Painted, CloseAsk, Closed};
 
-// What is left of stack and fronts.
-#[derive(Clone, Copy)]
-pub struct Sizes {
-    pub stack: usize,
-    pub fronts: usize,
-}
+use crate::{Regions, Stand};
 
-// The edge where a scan ended, and the fronts that it left.
-#[derive(Clone, Copy)]
-pub struct Halt {
-    pub cursor: usize,
-    pub fronts: usize,
-}
-
-// How many of the k0 rising numbers from a on are at most y: those beyond are taken off.
-fn cut(w: &[u32], a: usize, k0: usize, y: u32) -> usize
-    requires { CutAsk a k0 y w.now }
-    ensures { Cut a k0 y w.now result }
+// How many of the rising fronts are at most y: those beyond are taken off. From behind, so that each turn takes one off for good.
+fn cut(fronts: &[u32], y: u32) -> usize
+    requires { CutAsk y fronts.now }
+    ensures { Cut y fronts.now result }
 {
-    let mut k = k0;
-    while y < w[a + (k - 1)] {
+    let mut k = fronts.len();
+    while y < fronts[k - 1] {
         k -= 1;
     }
     k
 }
 
-// How many of the k0 fronts from a on are left where a vertex of the colour y is met, which is seen.
-fn bound(n: usize, w: &[u32], a: usize, k0: usize, y: u32) -> usize
-    requires { BoundAsk n a k0 y w.now }
-    ensures { Bound n a k0 y w.now result }
+// How many of the fronts are left where a vertex of the colour y is met, which is seen.
+fn bound(n: usize, fronts: &[u32], y: u32) -> usize
+    requires { BoundAsk n y fronts.now }
+    ensures { Bound n y fronts.now result }
 {
     if (y as usize) < n {
-        return k0;
+        return fronts.len();
     }
-    cut(w, a, k0, y)
+    cut(fronts, y)
 }
 
-// From c0 up to h: past the edges to vertices that are seen; where one is on the stack, the segments behind its own join it.
-pub fn scan(n: usize, b: usize, label: &[u32], w: &[u32], c0: usize, h: usize, k0: usize) -> Halt
-    requires { ScanAsk n b c0 h k0 label.now w.now }
-    ensures { Scanned n b c0 h k0 label.now w.now result.cursor result.fronts }
+// The path's last goes past its edges to vertices that are seen; where one is on the stack, the segments behind its own join it.
+pub fn scan(w: &[u32], at: Regions, label: &[u32], stand: Stand) -> Stand
+    requires { ScanAsk at.n at.base stand.cursor stand.end stand.fronts label.now w.now }
+    ensures stands { (result.stack ≡ stand.stack) × Stays stand result }
+    ensures scanned { Scanned at.n at.base stand.cursor stand.end stand.fronts label.now w.now result.cursor result.fronts }
 {
-    let mut c = c0;
-    let mut k = k0;
-    while c < h {
+    let n = at.n;
+    let first = at.base + n;
+    let mut k = stand.fronts;
+    for c in stand.cursor..stand.end {
         let y = label[w[n + 1 + c] as usize];
         if y as usize == n {
-            return Halt {
-                cursor: c,
+            return Stand {
                 fronts: k,
+                cursor: c,
+                ..stand
             };
         }
-        k = bound(n, w, b + n, k, y);
-        c += 1;
+        k = bound(n, &w[first..first + k], y);
     }
-    Halt {
-        cursor: c,
+    Stand {
         fronts: k,
+        cursor: stand.end,
+        ..stand
     }
 }
 
-// The smaller of two.
-fn lower(x: u32, y: u32) -> u32
-    ensures { Lower x y result }
+// The smallest of the members.
+fn lowest(members: &[u32]) -> u32
+    requires { 0 < length members.now }
+    ensures { Lowest 0 (length members.now) members.now result }
 {
-    if x < y {
-        return x;
-    }
-    y
+    members.iter().copied().min().unwrap_or(0)
 }
 
-// The smallest of the numbers from a up to e.
-fn lowest(w: &[u32], a: usize, e: usize) -> u32
-    requires { LowestAsk a e w.now }
-    ensures { Lowest a e w.now result }
+// The members get the colour l.
+fn paint(label: &mut [u32], members: &[u32], l: u32)
+    requires { PaintAsk 0 (length members.now) label.old members.now }
+    ensures { Painted 0 (length members.now) l members.now label.old label.new }
 {
-    let mut l = w[a];
-    let mut i = a + 1;
-    while i < e {
-        l = lower(w[i], l);
-        i += 1;
-    }
-    l
-}
-
-// Who stands in w from a up to e gets the colour l.
-fn paint(label: &mut [u32], w: &[u32], a: usize, e: usize, l: u32)
-    requires { PaintAsk a e label.old w.now }
-    ensures { Painted a e l w.now label.old label.new }
-{
-    let mut i = a;
-    while i < e {
-        label[w[i] as usize] = l;
-        i += 1;
+    for v in members {
+        label[*v as usize] = l;
     }
 }
 
-// If u begins the last of k segments, who stands in it gets the smallest of them for a colour and leaves the stack of s.
-pub fn close(
-    n: usize,
-    b: usize,
-    label: &mut [u32],
-    w: &[u32],
-    u: usize,
-    s: usize,
-    k: usize,
-) -> Sizes
-    requires { CloseAsk n b u s k label.old w.now }
-    ensures { Closed n b u s k w.now label.old label.new result }
+// If the path's last begins the last segment, who stands in it gets the smallest of them for a colour and leaves the stack.
+pub fn close(w: &[u32], at: Regions, label: &mut [u32], stand: Stand) -> Stand
+    requires { CloseAsk at.n at.base stand.top stand.stack stand.fronts label.old w.now }
+    ensures stands { (result.cursor ≡ stand.cursor) × Stays stand result }
+    ensures closed { Closed at.n at.base stand.top stand.stack stand.fronts w.now label.old label.new result.stack result.fronts }
 {
-    let y = label[u];
-    if y != w[b + n + (k - 1)] {
-        return Sizes {
-            stack: s,
-            fronts: k,
-        };
+    let y = label[stand.top];
+    if y != w[at.base + at.n + (stand.fronts - 1)] {
+        return stand;
     }
-    let t = y as usize - (n + 1);
-    let l = lowest(w, b + t, b + s);
-    paint(label, w, b + t, b + s, l);
-    Sizes {
-        stack: t,
-        fronts: k - 1,
+    let first = y as usize - (at.n + 1);
+    let members = &w[at.base + first..at.base + stand.stack];
+    paint(label, members, lowest(members));
+    Stand {
+        stack: first,
+        fronts: stand.fronts - 1,
+        ..stand
     }
 }

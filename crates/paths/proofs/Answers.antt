@@ -13,11 +13,13 @@ use Rattle.graph.specs.Limits.{words_needed, Enough, no_path, room_short}
 use Rattle.graph.specs.Refusal.{given, ◌or◌}
 use Rattle.memory.specs.Memory.{Zeroed, ClearAsk, Cleared}
 use Rattle.memory.proofs.Memory.{zeroed_after}
-use Rattle.graph.proofs.Refusals.{or_stop, or_none, or_of, given_none, given_of, or_left_none, not_lacking, OfTable, table_apart, Passed, table_passed, passed_valid}
-use Rattle.paths.specs.declared.Answer.{Answer}
-use Rattle.paths.specs.declared.Answer.TheVariants.{Done, Refused}
+use Rattle.graph.proofs.Reasons.{number_some, or_err}
+use Rattle.graph.proofs.Refusals.{or_none, or_of, given_none, given_of, or_left_none, not_lacking, OfTable, table_apart, Passed, table_passed, passed_valid}
+use Rattle.std.specs.Prelude.{Ok, Err}
+use Rattle.graph.specs.Reasons.{number_of}
+use Rattle.graph.specs.declared.refusal.Refusal.{Refusal}
 use Rattle.paths.specs.Walk.{FindAsk, Prepared, Settled}
-use Rattle.paths.specs.Promise.{Call, collection, distance, numbers_of, ask_on, first_refusal, refusal_on, path_refusal, after_search, Left, Promise}
+use Rattle.paths.specs.Promise.{Call, collection, distance, numbers_of, Answer, ask_on, first_refusal, refusal_on, path_refusal, after_search, Left, Promise}
 
 -- WHAT IS REFUSED BEFORE THE SEARCH
 -- neither 11 nor 12
@@ -90,31 +92,31 @@ module _ (c : Call) (pass : first_refusal c ≡ 0) where
     zeroed = zeroed_after p.long (λ j h. p.high j (omega arith)) z.numbers_zero
 
     pub settled_promise : (a : Answer) → Settled (collection c) c.u c.v c.room room a → Promise c room numbers words a
-    settled_promise (Done d) s = record {
+    settled_promise (Ok d) s = record {
       refusal = sym (not_refused (omega (arith, s.is, s.low)) (omega (arith, s.is, s.fits)));
       gives = record { shortest = s.is; written = s.walked; numbers_left = zeroed; words_left = z.words_zero };
     }
-    settled_promise (Refused k) s = ⊎_elim
+    settled_promise (Err k) s = ⊎_elim
         (λ t. denied no_path (far_refused t.1) (λ q. omega (arith, q)) zeroed z.words_zero k t.0)
         (λ t. denied room_short (short_refused t.1 t.2) (λ q. omega (arith, q)) zeroed z.words_zero k t.0)
         s.why
       where
         denied : (j : ℕ) → path_refusal c ≡ j → (j ≡ 0 → ⊥) → Left (after_search j) (numbers_of c) c.numbers numbers → Left (after_search j) (words_needed c.n) c.words words
-            → (k : ℕ) → k ≡ j → Promise c room numbers words (Refused k)
+            → (k : Refusal) → number_of k ≡ j → Promise c room numbers words (Err k)
         denied j r o a b k q = record { refusal = q ∙ sym r; gives = rw q (record { refused = o; room_same = s.room_same; numbers_left = a; words_left = b }) }
 
 -- refused before the search, with nothing changed
-pub first_refused : (c : Call) (k : ℕ) → k ≡ first_refusal c → (k ≡ 0 → ⊥) → Promise c c.room c.numbers c.words (Refused k)
+pub first_refused : (c : Call) (r : Refusal) → number_of r ≡ first_refusal c → Promise c c.room c.numbers c.words (Err r)
 unfolding refusal_on
-first_refused c k e o =
-    let l : after_search k ≡ false = rw e (first_early c) in
+first_refused c r e =
+    let l : after_search (number_of r) ≡ false = rw e (first_early c) in
     record {
-      refusal = e ∙ sym (or_stop _ _ (λ q. o (e ∙ q)));
+      refusal = or_err r _ _ e;
       gives = record {
-        refused = o;
+        refused = number_some r;
         room_same = refl;
-        numbers_left = left (after_search k) l (numbers_of c) c.numbers;
-        words_left = left (after_search k) l (words_needed c.n) c.words;
+        numbers_left = left (after_search (number_of r)) l (numbers_of c) c.numbers;
+        words_left = left (after_search (number_of r)) l (words_needed c.n) c.words;
       };
     }
   where

@@ -2,10 +2,12 @@
 use Prim.Native.Nat.{ℕ, ◌+◌, ◌-◌, ◌*◌, ◌≤◌, ◌<◌}
 use native.Mathlib.Omega.{arith}
 use mathlib.Core.Path.{◌≡◌, sym, ap, subst, ◌∙◌}
-use mathlib.Core.List.{List, []}
+use mathlib.Core.List.{List}
 use lib.ListN.{length, get_or, drop, length-take, length-drop}
 use borrow.Rule.Slice.PartMut.{put_mid, mid_of}
-use Rattle.graph.specs.Graph.{Graph, table, rev, edges}
+use Rattle.graph.specs.Graph.{Graph, rev, edges}
+use Rattle.graph.specs.Table.{graph_of, turned_of}
+use Rattle.graph.specs.declared.table.Table.{Table}
 use Rattle.graph.proofs.Tests.{length_each}
 use Rattle.memory.proofs.Lent.{mid_long, mid_low, mid_in, mid_high}
 use Rattle.graph.proofs.Chains.{valid_rev, table_turned}
@@ -52,16 +54,21 @@ module _ {g : Graph} {kinds : List ℕ} {u : ℕ} {w : List ℕ} (a : FindAsk g 
           rest = λ j h. mid_high w₁ l (reverse g) (base g) up fits z.long j h ∙ o.rest j (omega (arith, start_all g.counted g.src (edges g) g.n));
         }
 
--- the numbers by target are those of the turned table
-module _ (mask : ℕ) {n u : ℕ} {s t kinds w w₁ : List ℕ} (a : FindAsk (table n s t kinds mask) kinds u w) (o : One (table n s t kinds mask) w w₁) where
-  abbrev k : ℕ
-  k = n + 1 + length s
+-- the numbers by target are those of the turned table t'
+module _ {t t' : Table} (is : t' ≡ turned_of t) {u : ℕ} {w w₁ : List ℕ} (a : FindAsk (graph_of t) t.kinds.now u w) (o : One (graph_of t) w w₁) where
+  abbrev behind : List ℕ
+  behind = mid_of (t.n + 1 + length t.sources.now) (2 * (t.n + 1 + length t.sources.now) - (t.n + 1 + length t.sources.now)) w₁
 
-  same : numbered (table n t [] kinds mask) ≡ numbered (rev (table n s t kinds mask))
-  same = ap numbered (table_turned n s t kinds mask a.valid.same)
+  same : numbered (graph_of (turned_of t)) ≡ numbered (rev (graph_of t))
+  same = ap numbered (table_turned t.n t.sources.now t.targets.now t.kinds.now t.mask a.valid.same)
 
-  pub numbers_ask : IndexAsk (numbered (table n t [] kinds mask)) kinds (mid_of k (2 * k - k) w₁)
-  numbers_ask = subst (λ (g : Graph). IndexAsk g kinds (mid_of k (2 * k - k) w₁)) (sym same) (behind_ask a o)
+  pub numbers_ask : IndexAsk (numbered (graph_of t')) t'.kinds.now behind
+  numbers_ask =
+      let turned : IndexAsk (numbered (graph_of (turned_of t))) t.kinds.now behind = subst (λ (g : Graph). IndexAsk g t.kinds.now behind) (sym same) (behind_ask a o) in
+      subst (λ (x : Table). IndexAsk (numbered (graph_of x)) x.kinds.now behind) (sym is) turned
 
-  pub indexed : {l : List ℕ} → Built (numbered (table n t [] kinds mask)) (mid_of k (2 * k - k) w₁) l → Indexed (table n s t kinds mask) w (put_mid k (2 * k - k) w₁ l)
-  indexed {l} z = behind_laid a o l (subst (λ (g : Graph). Built g (mid_of k (2 * k - k) w₁) l) same z)
+  pub indexed : {l : List ℕ} → Built (numbered (graph_of t')) behind l
+      → Indexed (graph_of t) w (put_mid (t.n + 1 + length t.sources.now) (2 * (t.n + 1 + length t.sources.now) - (t.n + 1 + length t.sources.now)) w₁ l)
+  indexed {l} z =
+      let turned : Built (numbered (graph_of (turned_of t))) behind l = subst (λ (x : Table). Built (numbered (graph_of x)) behind l) is z in
+      behind_laid a o l (subst (λ (g : Graph). Built g behind l) same turned)

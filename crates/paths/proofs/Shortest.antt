@@ -23,9 +23,9 @@ use Rattle.graph.proofs.Masks.{table_full, refusal_full}
 use Rattle.graph.proofs.Distance.{dist_is, dist_low, dist_unique, dist_reached}
 use Rattle.graph.proofs.Nearer.{has_nearer}
 use Rattle.graph.proofs.Paths.{walk_path, walk_length}
-use Rattle.paths.specs.Promise.{Call, collection, bare, distance, first_refusal, refusal_on, path_refusal, after_search, number, PromiseOn, Promise}
-use Rattle.paths.specs.declared.Answer.{Answer}
-use Rattle.paths.specs.declared.Answer.TheVariants.{Done, Refused}
+use Rattle.paths.specs.Promise.{Call, collection, bare, distance, first_refusal, refusal_on, path_refusal, after_search, Answer, PromiseOn, Promise}
+use Rattle.std.specs.Prelude.{Ok, Err}
+use Rattle.graph.specs.Reasons.{said}
 use Rattle.paths.proofs.Answers.{first_early, Admitted, admitted, valid, far_refused, short_refused, not_refused}
 
 ruleset facts = (and_l, and_r, eqb→eq)
@@ -98,7 +98,7 @@ module _ (c : Call) (pass : first_refusal c ≡ 0) where
 
 -- THE ANSWER IS A PATH
 module _ (c : Call) (room numbers words : List ℕ) where
-  module _ (d : ℕ) (p : Promise c room numbers words (Done d)) where
+  module _ (d : ℕ) (p : Promise c room numbers words (Ok d)) where
     pass : first_refusal c ≡ 0
     unfolding refusal_on
     pass = (or_none _ _ (sym p.refusal)).0
@@ -143,7 +143,7 @@ module _ (c : Call) (room numbers words : List ℕ) where
   -- 11 AND 12
   module _ (a : Answer) (p : Promise c room numbers words a) where
     -- they come after what is refused before the search
-    passed : after_search (number a) ≡ true → first_refusal c ≡ 0
+    passed : after_search (said a) ≡ true → first_refusal c ≡ 0
     unfolding refusal_on
     passed l = elim (ℕ_discrete (first_refusal c) 0) as (λ _. first_refusal c ≡ 0) [
       | yes e ↦ e
@@ -153,30 +153,30 @@ module _ (c : Call) (room numbers words : List ℕ) where
 
     module _ (pass : first_refusal c ≡ 0) where
       -- without 11 v is reached; if it is reached and not all is done, the room is too short
-      near : (number a ≡ no_path → ⊥) → distance c < c.n
+      near : (said a ≡ no_path → ⊥) → distance c < c.n
       near o = elim (dec_lt (distance c) c.n) as (λ _. distance c < c.n) [
         | yes l ↦ l
         | no l ↦ absurd (o (p.refusal ∙ far_refused c pass (omega arith)))
       ]
 
-      short : distance c < c.n → (number a ≡ 0 → ⊥) → length c.room < distance c
+      short : distance c < c.n → (said a ≡ 0 → ⊥) → length c.room < distance c
       short h o = elim (dec_lt (length c.room) (distance c)) as (λ _. length c.room < distance c) [
         | yes l ↦ l
         | no l ↦ absurd (o (p.refusal ∙ not_refused c pass h (omega arith)))
       ]
 
     -- 11 exactly if no chain leads from u to v
-    pub no_path_means : (number a ≡ no_path) ↔ ((first_refusal c ≡ 0) × ((h : ℕ) → Chain (collection c) all h c.u c.v → ⊥))
+    pub no_path_means : (said a ≡ no_path) ↔ ((first_refusal c ≡ 0) × ((h : ℕ) → Chain (collection c) all h c.u c.v → ⊥))
     no_path_means = (
       λ e. let q = passed (ap after_search e) in (q, λ h x. let l = (reached c q).1 (h, x) in omega (arith, e, p.refusal, short_refused c q l (short q l (λ z. omega (arith, e, z))))),
-      λ (q, none). elim (dec_lt (distance c) c.n) as (λ _. number a ≡ no_path) [
+      λ (q, none). elim (dec_lt (distance c) c.n) as (λ _. said a ≡ no_path) [
         | yes l ↦ (let (h, x) = (reached c q).0 l in absurd (none h x))
         | no l ↦ p.refusal ∙ far_refused c q (omega arith)
       ],
     )
 
     -- 12 exactly if the number of edges on a shortest chain exceeds the room
-    pub room_short_means : (number a ≡ room_short) ↔ ((first_refusal c ≡ 0) × (d : ℕ) × IsDist (collection c) c.u c.v d × (length c.room < d))
+    pub room_short_means : (said a ≡ room_short) ↔ ((first_refusal c ≡ 0) × (d : ℕ) × IsDist (collection c) c.u c.v d × (length c.room < d))
     room_short_means = (
       λ e. let q = passed (ap after_search e) in let l = near q (λ z. omega (arith, e, z)) in (q, distance c, is_dist c q ((reached c q).0 l), short q l (λ z. omega (arith, e, z))),
       λ (q, d, i, l).
@@ -189,10 +189,10 @@ module _ (c : Call) (room numbers words : List ℕ) where
   -- what is promised of a graph does not depend on the call's kinds and mask
   bared : {k : ℕ} {g : Graph} (a : Answer) → PromiseOn k g c room numbers words a → PromiseOn k g (bare c) room numbers words a
   unfolding refusal_on
-  bared (Done d) p =
+  bared (Ok d) p =
       let y = p.gives in
       record { refusal = p.refusal; gives = record { shortest = y.shortest; written = y.written; numbers_left = y.numbers_left; words_left = y.words_left } }
-  bared (Refused k) p =
+  bared (Err k) p =
       let y = p.gives in
       record { refusal = p.refusal; gives = record { refused = y.refused; room_same = y.room_same; numbers_left = y.numbers_left; words_left = y.words_left } }
 

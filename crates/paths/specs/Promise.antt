@@ -1,13 +1,14 @@
 -- What the shortest path is given and promises.
-use Rattle.std.specs.Prelude.{ℕ, ◌≡◌, Bool, true, false, ◌||◌, List, [], ◌++◌, length, drop, eqb, ltb, leb}
+use Rattle.std.specs.Prelude.{ℕ, Result, Ok, Err, ◌≡◌, Bool, true, false, ◌||◌, List, [], ◌++◌, length, drop, eqb, ltb, leb}
 use Rattle.graph.specs.Graph.{Graph, table}
 use Rattle.graph.specs.Limits.{numbers_needed, words_needed, memory_short, vertex_outside, no_path, room_short}
 use Rattle.graph.specs.Refusal.{given, ◌or◌, table_refusal, lacking}
 use Rattle.graph.specs.Certificate.{dist_of}
 use Rattle.graph.specs.Paths.{walk}
 use Rattle.memory.specs.Memory.{Zeroed}
-use Rattle.paths.specs.declared.Answer.{Answer}
-use Rattle.paths.specs.declared.Answer.TheVariants.{Done, Refused}
+use Rattle.graph.specs.Reasons.{number_of, said}
+use Rattle.graph.specs.declared.table.Table.{Table}
+use Rattle.graph.specs.declared.refusal.Refusal.{Refusal}
 
 -- what the function is given
 pub record Call : Type 0 where
@@ -21,6 +22,22 @@ pub record Call : Type 0 where
   pub room : List ℕ
   pub numbers : List ℕ
   pub words : List ℕ
+
+-- the call on a lent table
+abbrev pub call : Table → (u v : ℕ) → (room numbers words : List ℕ) → Call
+call t u v room numbers words =
+    record {
+      n = t.n;
+      sources = t.sources.now;
+      targets = t.targets.now;
+      kinds = t.kinds.now;
+      mask = t.mask;
+      u = u;
+      v = v;
+      room = room;
+      numbers = numbers;
+      words = words;
+    }
 
 -- the call's table: edges of a kind in the mask count
 abbrev pub collection : Call → Graph
@@ -82,10 +99,9 @@ abbrev pub Left : Bool → ℕ → List ℕ → List ℕ → Type 0
 Left true k w w' = Zeroed k w w'
 Left false k w w' = w' ≡ w
 
--- the number of an answer
-abbrev pub number : Answer → ℕ
-number (Done d) = 0
-number (Refused k) = k
+-- the length of a path, or why there is none
+abbrev pub Answer : Type 0
+Answer = Result ℕ Refusal
 
 -- done: the distance in g, the path in the front of the room, and the working memory
 pub record Finished (g : Graph) (c : Call) (room numbers words : List ℕ) (d : ℕ) : Type 0 where
@@ -103,12 +119,12 @@ pub record Denied (c : Call) (room numbers words : List ℕ) (k : ℕ) : Type 0 
 
 -- the values of an answer, and the final contents of what was lent
 abbrev pub Gives : Graph → Call → (room numbers words : List ℕ) → Answer → Type 0
-Gives g c room numbers words (Done d) = Finished g c room numbers words d
-Gives g c room numbers words (Refused k) = Denied c room numbers words k
+Gives g c room numbers words (Ok d) = Finished g c room numbers words d
+Gives g c room numbers words (Err r) = Denied c room numbers words (number_of r)
 
 -- where the table's check gives k, and paths are those of g
 pub record PromiseOn (k : ℕ) (g : Graph) (c : Call) (room numbers words : List ℕ) (a : Answer) : Type 0 where
-  pub refusal : number a ≡ refusal_on k g c
+  pub refusal : said a ≡ refusal_on k g c
   pub gives : Gives g c room numbers words a
 
 abbrev pub Promise : Call → (room numbers words : List ℕ) → Answer → Type 0

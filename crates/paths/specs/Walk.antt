@@ -1,5 +1,5 @@
 -- Distances as colours, and the walk back along them.
-use Rattle.std.specs.Prelude.{ℕ, ◌+◌, ◌*◌, ◌≤◌, ◌<◌, ◌≡◌, List, ◌++◌, ◌⊎◌, length, get_or, drop}
+use Rattle.std.specs.Prelude.{ℕ, Result, Ok, Err, ◌+◌, ◌*◌, ◌≤◌, ◌<◌, ◌≡◌, List, ◌++◌, ◌⊎◌, length, get_or, drop}
 use Rattle.graph.specs.Graph.{Graph, Kinds, Valid, rev, edges}
 use Rattle.graph.specs.Arrows.{Arrows, on}
 use Rattle.graph.specs.Limits.{most_vertices, most_edges, no_path, room_short}
@@ -7,8 +7,8 @@ use Rattle.graph.specs.Certificate.{dist_of}
 use Rattle.graph.specs.Paths.{walk}
 use Rattle.index.specs.Index.{Held, numbered}
 use Rattle.memory.specs.Decomposer.{col}
-use Rattle.paths.specs.declared.Answer.{Answer}
-use Rattle.paths.specs.declared.Answer.TheVariants.{Done, Refused}
+use Rattle.graph.specs.Reasons.{number_of}
+use Rattle.graph.specs.declared.refusal.Refusal.{Refusal}
 
 -- a table whose sources are s
 abbrev pub sourced : List ℕ → Arrows → Arrows
@@ -95,6 +95,6 @@ pub record Stopped (g : Graph) (u v : ℕ) (room room' : List ℕ) (k : ℕ) : T
   pub room_same : room' ≡ room
   pub why : ((k ≡ no_path) × (g.n ≤ dist_of g u v)) ⊎ ((k ≡ room_short) × (dist_of g u v < g.n) × (length room < dist_of g u v))
 
-abbrev pub Settled : Graph → (u v : ℕ) → (room room' : List ℕ) → Answer → Type 0
-Settled g u v r r' (Done d) = Found g u v r r' d
-Settled g u v r r' (Refused k) = Stopped g u v r r' k
+abbrev pub Settled : Graph → (u v : ℕ) → (room room' : List ℕ) → Result ℕ Refusal → Type 0
+Settled g u v r r' (Ok d) = Found g u v r r' d
+Settled g u v r r' (Err k) = Stopped g u v r r' (number_of k)

@@ -1,32 +1,30 @@
 // Distances from u by levels, and the walk back from v along them.
-ghost use Rattle.graph.specs.Graph.{table};
+ghost use Rattle.graph.specs.Table.{graph_of};
 ghost use Rattle.paths.specs.Walk.{SomeFrom, EveryFrom, FindAsk, Prepared, FirstAsk, First, WalkAsk, Walked, SettleAsk, Settled};
 
-use crate::Answer;
-use graph::limits;
+use graph::refusal::Refusal;
+use graph::table::Table;
 use index::build;
+use memory::layout::Direction;
 use paint::distances;
 
 // The neighbours, behind them the counted edges' numbers by target, and behind both as colours the distances from u: n + 1 is no distance.
-pub fn find(
-    n: usize,
-    sources: &[u32],
-    targets: &[u32],
-    kinds: &[u8],
-    mask: u8,
-    u: usize,
-    w: &mut [u32],
-)
-    requires { FindAsk (table n sources.now targets.now kinds.now mask) kinds.now u w.old }
-    ensures { Prepared (table n sources.now targets.now kinds.now mask) u w.old w.new }
+pub fn find(table: &Table, u: usize, w: &mut [u32])
+    requires { FindAsk (graph_of table.now) table.now.kinds.now u w.old }
+    ensures { Prepared (graph_of table.now) u w.old w.new }
 {
-    build::one(n, sources, targets, kinds, mask, w);
-    let k = n + 1 + sources.len();
+    build::one(table, w);
+    let k = table.n + 1 + table.sources.len();
     let b = 2 * k;
-    build::numbers(n, targets, kinds, mask, &mut w[k..b]);
-    let far = (n + 1) as u32;
-    memory::fill(w, b, n, far);
-    distances::measure(n, w, 0, b, u, far);
+    build::numbers(&table.turned(), &mut w[k..b]);
+    let far = (table.n + 1) as u32;
+    memory::fill(w, b, table.n, far);
+    let along = Direction {
+        n: table.n,
+        index: 0,
+        base: b,
+    };
+    distances::measure(w, along, u, far);
 }
 
 // The first of the places i0 .. t - 1 whose edge comes from a vertex of the colour d, or t.
@@ -34,30 +32,25 @@ fn first(sources: &[u32], w: &[u32], eb: usize, b: usize, i0: usize, t: usize, d
     requires { FirstAsk sources.now w.now eb b i0 t }
     ensures { First sources.now w.now eb b d i0 t result }
 {
-    let mut i = i0;
-    while i < t {
-        let e = w[eb + i] as usize;
-        let x = sources[e] as usize;
-        let y = w[b + x] as usize;
-        if y == d {
+    for i in i0..t {
+        let x = sources[w[eb + i] as usize] as usize;
+        if w[b + x] as usize == d {
             return i;
         }
-        i += 1;
     }
-    i
+    t
 }
 
 // Back from v, each time by the smallest edge from one step nearer; the numbers of a vertex's edges stand in rising order.
-fn back(n: usize, sources: &[u32], v: usize, w: &[u32], d0: usize, room: &mut [u32])
-    requires { SomeFrom n sources.now (λ g u. WalkAsk g u v d0 w.now room.old) }
-    ensures { EveryFrom n sources.now (λ g u. WalkAsk g u v d0 w.now room.old → Walked g u v d0 room.old room.new) }
+fn back(table: &Table, v: usize, w: &[u32], d0: usize, room: &mut [u32])
+    requires { SomeFrom table.now.n table.now.sources.now (λ g u. WalkAsk g u v d0 w.now room.old) }
+    ensures { EveryFrom table.now.n table.now.sources.now (λ g u. WalkAsk g u v d0 w.now room.old → Walked g u v d0 room.old room.new) }
 {
-    let rx = n + 1 + sources.len();
-    let eb = rx + n + 1;
+    let sources = table.sources;
+    let rx = table.n + 1 + sources.len();
+    let eb = rx + table.n + 1;
     let mut x = v;
-    let mut d = d0;
-    while 0 < d {
-        d -= 1;
+    for d in (0..d0).rev() {
         let s = w[rx + x] as usize;
         let t = w[rx + x + 1] as usize;
         let i = first(sources, w, eb, 2 * rx, s, t, d);
@@ -68,17 +61,17 @@ fn back(n: usize, sources: &[u32], v: usize, w: &[u32], d0: usize, room: &mut [u
 }
 
 // The answer from the distances: 11, 12, or the path.
-pub fn settle(n: usize, sources: &[u32], v: usize, w: &[u32], room: &mut [u32]) -> Answer
-    requires { SomeFrom n sources.now (λ g u. SettleAsk g u v w.now) }
-    ensures { EveryFrom n sources.now (λ g u. SettleAsk g u v w.now → Settled g u v room.old room.new result) }
+pub fn settle(table: &Table, v: usize, w: &[u32], room: &mut [u32]) -> Result<usize, Refusal>
+    requires { SomeFrom table.now.n table.now.sources.now (λ g u. SettleAsk g u v w.now) }
+    ensures { EveryFrom table.now.n table.now.sources.now (λ g u. SettleAsk g u v w.now → Settled g u v room.old room.new result) }
 {
-    let d = w[2 * (n + 1 + sources.len()) + v] as usize;
-    if n <= d {
-        return Answer::Refused(limits::NO_PATH);
+    let d = w[2 * (table.n + 1 + table.sources.len()) + v] as usize;
+    if table.n <= d {
+        return Err(Refusal::NoPath);
     }
     if room.len() < d {
-        return Answer::Refused(limits::ROOM_SHORT);
+        return Err(Refusal::RoomShort);
     }
-    back(n, sources, v, w, d, room);
-    Answer::Done { length: d }
+    back(table, v, w, d, room);
+    Ok(d)
 }

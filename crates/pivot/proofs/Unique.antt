@@ -34,3 +34,11 @@ reads_one k (Ok p) (Ok r) x y = ap (λ (z : Pivots). Ok z) (kind_one p r (x ∙ 
 reads_one k (Ok p) (Err e) x y = absurd (omega (arith, kind_low p, x, y.1))
 reads_one k (Err e) (Ok p) x y = absurd (omega (arith, kind_low p, y, x.1))
 reads_one k (Err e) (Err f) x y = ap (λ (z : Refusal). Err z) (x.0 ∙ sym y.0)
+
+-- the chooser as it stands, copied and left
+pub copied_one : {c r a q b : Chooser} → (r ≡ c) × (a ≡ c) → (q ≡ c) × (b ≡ c) → (r ≡ q) × (a ≡ b)
+copied_one x y = (x.0 ∙ sym y.0, x.1 ∙ sym y.1)
+
+-- the chooser that was put, whatever stood there
+pub put_one : {x a b : Chooser} → a ≡ x → b ≡ x → a ≡ b
+put_one p q = p ∙ sym q

@@ -11,7 +11,7 @@ fn from(words: &[u64], n: usize, v: usize, rest: usize) -> usize
 {
     let mut k = rest;
     for u in v..n {
-        if sets::has(words, u) == 1 {
+        if sets::has(words, u) {
             if k == 0 {
                 return u;
             }

@@ -4,7 +4,7 @@ use native.Mathlib.Omega.{arith}
 use native.Mathlib.Decide.{ℕ_discrete}
 use mathlib.Core.Path.{◌≡◌, sym, ap, ◌∙◌}
 use mathlib.Core.Logic.{◌⊎◌, inl, inr, ⊎_elim}
-use mathlib.Core.Bool.{Bool, false}
+use mathlib.Core.Bool.{Bool, true, false}
 use mathlib.Core.List.{List}
 use lib.ListN.{length, get_or, set, length-set}
 use lib.Seq.{get_or-set_same, get_or-set_other}
@@ -35,7 +35,7 @@ module _ {g : Graph} {b v ob ib q k : ℕ} {w : List ℕ} (a : ExamineAsk g b v 
   pub k_low : k < g.n
   k_low = omega (arith, a.state.room, many_more (λ u. false) (λ u. eqb (col b w u) q) g.n (λ i l e. absurd e) v a.low (λ e. e) (eq_t (col b w v) q here))
 
-  module _ {w₁ : List ℕ} {r : ℕ} (t : Tied g b v q w w₁ r) where
+  module _ {w₁ : List ℕ} {r : Bool} (t : Tied g b v q w w₁ r) where
     col₁ : (u : ℕ) → u < g.n → col b w₁ u ≡ col b w u
     col₁ u l = t.else (b + u) (omega arith) (omega arith)
 
@@ -63,7 +63,7 @@ module _ {g : Graph} {b v ob ib q k : ℕ} {w : List ℕ} (a : ExamineAsk g b v 
     walking₁ = walking_kept g b q w w₁ aside₁.low t.long a.state.walking
 
     -- v STAYS
-    pub examine_stay : (r ≡ 0 → ⊥) → Examined g b v q k w w₁ k
+    pub examine_stay : r ≡ true → Examined g b v q k w w₁ k
     examine_stay o =
         let (so, si) = t.some o in
         record {
@@ -145,12 +145,12 @@ module _ {g : Graph} {b v ob ib q k : ℕ} {w : List ℕ} (a : ExamineAsk g b v 
     )
 
     -- a tight set does not hold v
-    loose : r ≡ 0 → (x : ℕ → Bool) → Tight g (part x) → ((u : ℕ) → T (x u) → Hued g.n b q w u) → T (x v) → ⊥
+    loose : r ≡ false → (x : ℕ → Bool) → Tight g (part x) → ((u : ℕ) → T (x u) → Hued g.n b q w u) → T (x v) → ⊥
     loose z x h i m =
         let ((e, u, n, y), (f, d, c, s)) = h v m in
         ⊎_elim (λ o. o (f, d, i d c, s)) (λ o. o (e, u, i u n, edge_rev y)) (t.none z)
 
-    pub examine_go : r ≡ 0 → Examined g b v q k w w₂ (k + 1)
+    pub examine_go : r ≡ false → Examined g b v q k w w₂ (k + 1)
     examine_go z = record {
       pruned = record {
         state = record {

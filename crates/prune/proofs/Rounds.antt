@@ -14,7 +14,7 @@ use Rattle.memory.specs.Decomposer.{col, que, ord, own, nxt, chains_at, order_at
 use Rattle.paint.specs.Paint.{other, Laid}
 use Rattle.prune.specs.Trim.{TrimAsk, rev_at, into_at, out_at}
 use Rattle.prune.specs.Cursor.{ahead, Stands}
-use Rattle.prune.specs.Prune.{Pruning, Pruned, Fresh, Sound, Off, Here, Standing, AllStanding, ExamineAsk, Examined, AroundAsk, Around, BesideAsk, Beside}
+use Rattle.prune.specs.Prune.{Pruning, Pruned, Fresh, Sound, Off, Here, Standing, AllStanding, ExamineAsk, Examined, AroundAsk, Around, NearAsk, Near, BesideAsk, Beside}
 use Rattle.index.proofs.Counts.{start_mono}
 use Rattle.prune.proofs.Walks.{last_le, other_low, ends_at, clear_first, rests_in, rests_wider}
 use Rattle.prune.proofs.Along.{Along, along_less}
@@ -87,18 +87,18 @@ beside_ask {g} {d} {ix} {b} {q} {k} {w} u x e l s c =
     }
 
 -- u has gone, and its neighbours in both directions were examined
-pub beside_first : {g : Graph} {b u q k : ℕ} {w : List ℕ} → BesideAsk g b u q k w → AroundAsk g (0 + g.n + 1) b (get_or w (0 + u) 0) (get_or w (0 + u + 1) 0) q k w
-beside_first {u = u} a = beside_ask u a.state.walking.out refl a.low a.state a.sound
+pub beside_first : {g : Graph} {b u q k : ℕ} {w : List ℕ} → BesideAsk g b u q k w → NearAsk g 0 b u q k w
+beside_first {u = u} a = (a.low, beside_ask u a.state.walking.out refl a.low a.state a.sound)
 
 module _ {g : Graph} {b u q k : ℕ} {w : List ℕ} (a : BesideAsk g b u q k w)
-    {w₁ : List ℕ} {k₁ : ℕ} (y : Around g (0 + g.n + 1) b (get_or w (0 + u) 0) (get_or w (0 + u + 1) 0) q k w w₁ k₁) where
+    {w₁ : List ℕ} {k₁ : ℕ} (y : Near g 0 b u q k w w₁ k₁) where
   sound₁ : Sound g b q w₁
   sound₁ = sound_kept a.state y.pruned a.sound
 
-  pub beside_second : AroundAsk g (rev_at g + g.n + 1) b (get_or w₁ (rev_at g + u) 0) (get_or w₁ (rev_at g + u + 1) 0) q k₁ w₁
-  beside_second = beside_ask u y.pruned.state.walking.into refl a.low y.pruned.state sound₁
+  pub beside_second : NearAsk g (rev_at g) b u q k₁ w₁
+  beside_second = (a.low, beside_ask u y.pruned.state.walking.into refl a.low y.pruned.state sound₁)
 
-  module _ {w₂ : List ℕ} {k₂ : ℕ} (z : Around g (rev_at g + g.n + 1) b (get_or w₁ (rev_at g + u) 0) (get_or w₁ (rev_at g + u + 1) 0) q k₁ w₁ w₂ k₂) where
+  module _ {w₂ : List ℕ} {k₂ : ℕ} (z : Near g (rev_at g) b u q k₁ w₁ w₂ k₂) where
     fore : Laid g 0 b w
     fore = a.state.walking.out
 

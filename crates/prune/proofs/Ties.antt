@@ -1,8 +1,9 @@
 -- A vertex is looked at in both directions.
 use Prim.Native.Nat.{ℕ, ◌+◌, ◌<◌}
 use native.Mathlib.Omega.{arith}
-use mathlib.Core.Path.{◌≡◌, refl, sym, ap, ◌∙◌}
+use mathlib.Core.Path.{◌≡◌, sym, ap, ◌∙◌}
 use mathlib.Core.Logic.{inl, inr}
+use mathlib.Core.Bool.{Bool, true, false}
 use mathlib.Core.List.{List}
 use lib.ListN.{length, get_or, length-set}
 use lib.Seq.{get_or-set_other}
@@ -28,7 +29,7 @@ module _ {g : Graph} {b v ob ib q : ℕ} {w : List ℕ} (a : TiedAsk g b v ob ib
   tied_first = look_ask g 0 (out_at g b) b q w a.walking.out (omega arith) (omega (arith, a.walking.long)) v a.low ob
       (omega (arith, a.low, a.starts.high, a.walking.long)) a.starts.out
 
-  module _ {w₁ : List ℕ} {r₁ : ℕ} (s : Looked g.n 0 (out_at g b) ob b v q w w₁ r₁) where
+  module _ {w₁ : List ℕ} {r₁ : Bool} (s : Looked g.n 0 (out_at g b) ob b v q w w₁ r₁) where
     else₁ : (j : ℕ) → (j ≡ out_at g b + v → ⊥) → get_or w₁ j 0 ≡ get_or w j 0
     else₁ j o = ap (λ (x : List ℕ). get_or x j 0) s.store ∙ get_or-set_other w (out_at g b + v) j s.place 0 o
 
@@ -41,12 +42,12 @@ module _ {g : Graph} {b v ob ib q : ℕ} {w : List ℕ} (a : TiedAsk g b v ob ib
     walking₁ : Walking g b q w₁
     walking₁ = walking_kept g b q w w₁ (λ j h. else₁ j (omega arith)) long₁ a.walking
 
-    pub tied_none : r₁ ≡ 0 → Tied g b v q w w₁ 0
+    pub tied_none : r₁ ≡ false → Tied g b v q w w₁ r₁
     tied_none e = record {
       else = λ j o _. else₁ j o;
       long = long₁;
       none = λ _. inl (look_none g 0 (out_at g b) b q w a.walking.out (omega arith) (omega (arith, a.walking.long)) v a.low (cur ob w v) a.starts.out s.place s.found (s.none e));
-      some = λ o. absurd (o refl);
+      some = λ o. let y : true ≡ false = sym o ∙ e in (cc);
     }
 
     into₁ : Clear (rev g) (rev_at g) b q w₁ v (cur ib w₁ v)
@@ -57,14 +58,14 @@ module _ {g : Graph} {b v ob ib q : ℕ} {w : List ℕ} (a : TiedAsk g b v ob ib
     tied_second = look_ask (rev g) (rev_at g) (into_at g b) b q w₁ walking₁.into (omega arith) (omega (arith, walking₁.long)) v a.low ib
         (omega (arith, a.low, a.starts.below, walking₁.long)) into₁
 
-    module _ {w₂ : List ℕ} {r₂ : ℕ} (t : Looked g.n (rev_at g) (into_at g b) ib b v q w₁ w₂ r₂) where
+    module _ {w₂ : List ℕ} {r₂ : Bool} (t : Looked g.n (rev_at g) (into_at g b) ib b v q w₁ w₂ r₂) where
       else₂ : (j : ℕ) → (j ≡ into_at g b + v → ⊥) → get_or w₂ j 0 ≡ get_or w₁ j 0
       else₂ j o = ap (λ (x : List ℕ). get_or x j 0) t.store ∙ get_or-set_other w₁ (into_at g b + v) j t.place 0 o
 
       low₂ : (j : ℕ) → j < b → get_or w₂ j 0 ≡ get_or w₁ j 0
       low₂ j h = else₂ j (omega arith)
 
-      pub tied_all : (r₁ ≡ 0 → ⊥) → Tied g b v q w w₂ r₂
+      pub tied_all : r₁ ≡ true → Tied g b v q w w₂ r₂
       tied_all o = record {
         else = λ j x y. else₂ j y ∙ else₁ j x;
         long = ap length t.store ∙ length-set w₁ (into_at g b + v) t.place ∙ long₁;

@@ -105,8 +105,7 @@ module _ (g : Graph) (ix cb b q : ℕ) (w : List ℕ) (x : Laid g ix b w) (above
     find = record {
       order = omega (arith, ends_at g ix b w x v l, z.most);
       fits = omega (arith, ends_at g ix b w x v l, last_le g ix b w x v l, x.below);
-      room = omega (arith, above, fits);
-      ends = λ j i t. other_low g ix b w x v j l (omega (arith, z.least)) (omega (arith, ends_at g ix b w x v l));
+      ends = λ j i t. omega (arith, above, fits, other_low g ix b w x v j l (omega (arith, z.least)) (omega (arith, ends_at g ix b w x v l)));
     };
     offset = omega (arith, x.below, above, fits);
     cursor = omega arith;

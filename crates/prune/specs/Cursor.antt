@@ -1,5 +1,5 @@
 -- Cursors: for each vertex of the part and each direction the place up to which its edges lead out of the part.
-use Rattle.std.specs.Prelude.{ℕ, suc, ◌+◌, ◌≤◌, ◌<◌, ◌≡◌, List, ◌⊎◌, length, get_or, set}
+use Rattle.std.specs.Prelude.{ℕ, suc, ◌+◌, ◌≤◌, ◌<◌, ◌≡◌, Bool, true, false, List, ◌⊎◌, length, get_or, set}
 use Rattle.graph.specs.Graph.{Graph, Part, rev}
 use Rattle.graph.specs.Parts.{Left}
 use Rattle.graph.specs.Limits.{most_vertices}
@@ -51,11 +51,10 @@ pub record Walking (g : Graph) (b q : ℕ) (w : List ℕ) : Type 0 where
   pub long : pending_at g.n b ≤ length w
   pub part : g.n ≤ q
 
-pub record FindAsk (n eb b i t : ℕ) (w : List ℕ) : Type 0 where
+pub record FindAsk (eb b i t : ℕ) (w : List ℕ) : Type 0 where
   pub order : i ≤ t
   pub fits : eb + t ≤ length w
-  pub room : b + n ≤ length w
-  pub ends : (j : ℕ) → i ≤ j → j < t → other w eb j < n
+  pub ends : (j : ℕ) → i ≤ j → j < t → b + other w eb j < length w
 
 -- the first place from i on, below t, whose edge leads to the colour q; t if there is none
 pub record Found (eb b q i t : ℕ) (w : List ℕ) (r : ℕ) : Type 0 where
@@ -66,24 +65,24 @@ pub record Found (eb b q i t : ℕ) (w : List ℕ) (r : ℕ) : Type 0 where
 
 -- v is to be looked at, from the place on that stands at sb + v
 pub record LookAsk (n ix cb sb b v : ℕ) (w : List ℕ) : Type 0 where
-  pub find : FindAsk n (ix + n + 1) b (cur sb w v) (get_or w (ix + v + 1) 0) w
+  pub find : FindAsk (ix + n + 1) b (cur sb w v) (get_or w (ix + v + 1) 0) w
   pub offset : ix + v + 1 < length w
   pub cursor : cb + v < length w
   pub start : sb + v < length w
 
--- v's cursor is at the first edge from there on that leads to the colour q, or at the end of its edges; r is 0 at the end
-pub record Looked (n ix cb sb b v q : ℕ) (w w' : List ℕ) (r : ℕ) : Type 0 where
+-- v's cursor is at the first edge from there on that leads to the colour q, or at the end of its edges; r says whether there is such an edge
+pub record Looked (n ix cb sb b v q : ℕ) (w w' : List ℕ) (r : Bool) : Type 0 where
   pub place : ℕ
   pub found : Found (ix + n + 1) b q (cur sb w v) (get_or w (ix + v + 1) 0) w place
   pub store : w' ≡ set w (cb + v) place
-  pub none : r ≡ 0 → place ≡ get_or w (ix + v + 1) 0
-  pub some : (r ≡ 0 → ⊥) → place < get_or w (ix + v + 1) 0
+  pub none : r ≡ false → place ≡ get_or w (ix + v + 1) 0
+  pub some : r ≡ true → place < get_or w (ix + v + 1) 0
 
 -- v's cursor goes on from where it is
 abbrev pub AdvanceAsk : ℕ → ℕ → ℕ → ℕ → ℕ → List ℕ → Type 0
 AdvanceAsk n ix cb b v w = LookAsk n ix cb cb b v w
 
-abbrev pub Advanced : ℕ → ℕ → ℕ → ℕ → ℕ → ℕ → List ℕ → List ℕ → ℕ → Type 0
+abbrev pub Advanced : ℕ → ℕ → ℕ → ℕ → ℕ → ℕ → List ℕ → List ℕ → Bool → Type 0
 Advanced n ix cb b v q w w' r = Looked n ix cb cb b v q w w' r
 
 -- the places that stand at ob + v and ib + v are such that v's edges before them lead out of the part
@@ -102,9 +101,9 @@ pub record TiedAsk (g : Graph) (b v ob ib q : ℕ) (w : List ℕ) : Type 0 where
 abbrev pub Hued : ℕ → ℕ → ℕ → List ℕ → ℕ → Type 0
 Hued n b q w v = (v < n) × (col b w v ≡ q)
 
--- v was looked at in both directions: r is 0 if v can be trimmed; only v's cursors have changed
-pub record Tied (g : Graph) (b v q : ℕ) (w w' : List ℕ) (r : ℕ) : Type 0 where
+-- v was looked at in both directions: r is false if v can be trimmed; only v's cursors have changed
+pub record Tied (g : Graph) (b v q : ℕ) (w w' : List ℕ) (r : Bool) : Type 0 where
   pub else : (j : ℕ) → (j ≡ out_at g b + v → ⊥) → (j ≡ into_at g b + v → ⊥) → get_or w' j 0 ≡ get_or w j 0
   pub long : length w' ≡ length w
-  pub none : r ≡ 0 → (Left g (Hued g.n b q w) v → ⊥) ⊎ (Left (rev g) (Hued g.n b q w) v → ⊥)
-  pub some : (r ≡ 0 → ⊥) → Stands g 0 (out_at g b) b q w' v × Stands (rev g) (rev_at g) (into_at g b) b q w' v
+  pub none : r ≡ false → (Left g (Hued g.n b q w) v → ⊥) ⊎ (Left (rev g) (Hued g.n b q w) v → ⊥)
+  pub some : r ≡ true → Stands g 0 (out_at g b) b q w' v × Stands (rev g) (rev_at g) (into_at g b) b q w' v

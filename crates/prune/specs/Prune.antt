@@ -1,5 +1,5 @@
 -- The state while a part is trimmed, and how it goes on.
-use Rattle.std.specs.Prelude.{ℕ, suc, ◌+◌, ◌≤◌, ◌<◌, ◌≡◌, Bool, List, ◌⊎◌, T}
+use Rattle.std.specs.Prelude.{ℕ, suc, ◌+◌, ◌≤◌, ◌<◌, ◌≡◌, Bool, List, ◌⊎◌, T, get_or}
 use Rattle.graph.specs.Graph.{Graph, Part, all, rev}
 use Rattle.graph.specs.Parts.{Tight}
 use Rattle.graph.specs.Search.{part}
@@ -71,6 +71,13 @@ pub record Around (g : Graph) (eb b i t q k : ℕ) (w w' : List ℕ) (k' : ℕ) 
   pub pruned : Pruned g b q k w w' k'
   pub fresh : (j : ℕ) → i ≤ j → j < t → col b w' (other w eb j) ≡ q
       → Fresh g 0 (out_at g b) b q w w' (other w eb j) × Fresh (rev g) (rev_at g) (into_at g b) b q w w' (other w eb j)
+
+-- the neighbours of u by the index at ix
+abbrev pub NearAsk : Graph → ℕ → ℕ → ℕ → ℕ → ℕ → List ℕ → Type 0
+NearAsk g ix b u q k w = (u < g.n) × AroundAsk g (ix + g.n + 1) b (get_or w (ix + u) 0) (get_or w (ix + u + 1) 0) q k w
+
+abbrev pub Near : Graph → ℕ → ℕ → ℕ → ℕ → ℕ → List ℕ → List ℕ → ℕ → Type 0
+Near g ix b u q k w w' k' = Around g (ix + g.n + 1) b (get_or w (ix + u) 0) (get_or w (ix + u + 1) 0) q k w w' k'
 
 pub record BesideAsk (g : Graph) (b u q k : ℕ) (w : List ℕ) : Type 0 where
   pub state : Pruning g b q k w

@@ -4,14 +4,16 @@
 ghost use Rattle.graph.specs.Arrows.{SomeOf, EveryOf};
 ghost use Rattle.prune.specs.Trim.{TrimAsk, Trimmed};
 
+use memory::layout::Layout;
+
 pub mod cursor;
 mod queue;
 
 // The part q, whose chain begins at place h, is trimmed. How many have gone.
-pub fn prune(n: usize, m: usize, w: &mut [u32], b: usize, h: usize, q: u32) -> usize
-    requires { SomeOf n m (λ g. TrimAsk g b h q w.old) }
-    ensures { EveryOf n m (λ g. TrimAsk g b h q w.old → Trimmed g b q w.old w.new result) }
+pub fn prune(w: &mut [u32], at: Layout, h: usize, q: u32) -> usize
+    requires { SomeOf at.n at.m (λ g. TrimAsk g at.base h q w.old) }
+    ensures { EveryOf at.n at.m (λ g. TrimAsk g at.base h q w.old → Trimmed g at.base q w.old w.new result) }
 {
-    let k = queue::pass(n, m, w, b, h, q);
-    queue::drain(n, m, w, b, q, k)
+    let k = queue::pass(w, at, h, q);
+    queue::drain(w, at, q, k)
 }

@@ -14,7 +14,7 @@ use Rattle.graph.proofs.Chains.{reach_wider, valid_rev}
 use Rattle.graph.proofs.Search.{reached_iff}
 use Rattle.sets.proofs.Sizes.{members_in, members_out}
 use Rattle.reach.specs.Search.{Call, collection, table_of, Finished, Promise}
-use Rattle.reach.specs.declared.Answer.TheVariants.{Done}
+use Rattle.std.proofs.Common.{Ok}
 use Rattle.reach.proofs.Outcome.{table_ask}
 
 -- what is reached does not depend on how the sets are given
@@ -30,7 +30,7 @@ module _ (c : Call) (r w ws : List ℕ) (k e : ℕ) where
         λ t. f.complete v (fwd_wider {g = table_of c b} (members_out c.n c.permitted) (members_out c.n c.starts) v (it.0 t)),
       )
 
-  pub search_computed : (b : Bool) → Promise c b r w ws (Done k e) → (v : ℕ) → v < c.n
+  pub search_computed : (b : Bool) → Promise c b r w ws (Ok (record { vertices = k; edges = e })) → (v : ℕ) → v < c.n
       → (bit r v ≡ 1) ↔ T (mark (reached (table_of c b) (members c.n c.permitted) (members c.n c.starts)) v)
   search_computed true p v l = computed true (valid_rev (table_ask c (sym p.refusal)).valid) p.gives v l
   search_computed false p v l = computed false (table_ask c (sym p.refusal)).valid p.gives v l

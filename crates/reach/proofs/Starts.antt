@@ -16,9 +16,6 @@ pub reaching_still : (y : ℕ) → reaching (reaching y) ≡ reaching y
 reaching_still = paint_still 1 2 1 2 (λ e. omega arith) (λ e. omega arith) (λ e. omega arith) (λ e. omega arith)
 
 module _ {n b x : ℕ} {r w : List ℕ} {k : ℕ} where
-  pub one_none : bit r x ≡ 0 → BegunOne n b x r w k w k
-  one_none e = record { grew = grew_none reaching n b w k _; shut = λ h. absurd (omega arith) }
-
   pub one_visited : {w' : List ℕ} {k' : ℕ} → bit r x ≡ 1 → Visited reaching n b x w k w' k' → BegunOne n b x r w k w' k'
   one_visited {w'} {k'} h s = record {
     grew = grew_more reaching_still s.grew (grew_none reaching n b w' k' (λ v. (bit r v ≡ 1) × Opens reaching (col b w v))) (λ v t. (rw t.0 h, t.1)) (λ v l t. t);

@@ -1,5 +1,5 @@
 -- The search as callers see it.
-use Rattle.std.specs.Prelude.{ℕ, ◌≤◌, ◌≡◌, Bool, ◌||◌, List, [], length}
+use Rattle.std.specs.Prelude.{ℕ, ◌≤◌, ◌≡◌, Bool, ◌||◌, List, [], Result, Ok, Err, length}
 use Rattle.graph.specs.Limits.{numbers_needed, words_needed, wrong_length, memory_short}
 use Rattle.graph.specs.Numbers.{many}
 use Rattle.graph.specs.Graph.{Graph, Part, table, turned}
@@ -9,8 +9,10 @@ use Rattle.graph.specs.Sets.{bit, Members, members}
 use Rattle.memory.specs.Memory.{Zeroed}
 use Rattle.graph.specs.Refusal.{given, ◌or◌, table_refusal, lacking}
 use Rattle.sets.specs.Sizes.{ill_sized, Words}
-use Rattle.reach.specs.declared.Answer.{Answer}
-use Rattle.reach.specs.declared.Answer.TheVariants.{Done, Refused}
+use Rattle.graph.specs.Reasons.{number_of, said}
+use Rattle.graph.specs.declared.refusal.Refusal.{Refusal}
+use Rattle.graph.specs.declared.table.Table.{Table}
+use Rattle.reach.specs.declared.Found.{Found}
 
 -- what a search is given, but for the direction
 pub record Call : Type 0 where
@@ -24,6 +26,21 @@ pub record Call : Type 0 where
   pub reached : List ℕ
   pub numbers : List ℕ
   pub words : List ℕ
+
+-- the call of a lent table
+abbrev pub call_of : Table → (starts permitted reached numbers words : List ℕ) → Call
+call_of t starts permitted reached numbers words = record {
+  n = t.n;
+  sources = t.sources.now;
+  targets = t.targets.now;
+  kinds = t.kinds.now;
+  mask = t.mask;
+  starts = starts;
+  permitted = permitted;
+  reached = reached;
+  numbers = numbers;
+  words = words;
+}
 
 -- k, the number by which the table's check refuses; if it is 0, the first of 5, 6 that applies, else 0
 unfoldable pub refusal_on : ℕ → Call → ℕ
@@ -63,11 +80,6 @@ table_of c backward = turned backward (collection c)
 abbrev pub Reached : Graph → Call → Bool → Part
 Reached g c backward = Fwd (turned backward g) (Members c.n c.permitted) (Members c.n c.starts)
 
--- the number of an answer
-abbrev pub number : Answer → ℕ
-number (Done vertices edges) = 0
-number (Refused k) = k
-
 -- done: the set, its size, the number of counted edges whose source (backward: target) was reached, and the working memory
 pub record Finished (g : Graph) (c : Call) (backward : Bool) (r w ws : List ℕ) (k e : ℕ) : Type 0 where
   pub long : length r ≡ length c.reached
@@ -88,14 +100,14 @@ pub record Untouched (c : Call) (r w ws : List ℕ) (k : ℕ) : Type 0 where
   pub words : ws ≡ c.words
 
 -- the values of an answer, and the final contents of what was lent
-abbrev pub Gives : Graph → Call → Bool → List ℕ → List ℕ → List ℕ → Answer → Type 0
-Gives g c backward r w ws (Done k e) = Finished g c backward r w ws k e
-Gives g c backward r w ws (Refused k) = Untouched c r w ws k
+abbrev pub Gives : Graph → Call → Bool → List ℕ → List ℕ → List ℕ → Result Found Refusal → Type 0
+Gives g c backward r w ws (Ok f) = Finished g c backward r w ws f.vertices f.edges
+Gives g c backward r w ws (Err k) = Untouched c r w ws (number_of k)
 
 -- what is promised of the graph g, whose table's check gives k
-pub record PromiseOn (k : ℕ) (g : Graph) (c : Call) (backward : Bool) (r w ws : List ℕ) (a : Answer) : Type 0 where
-  pub refusal : number a ≡ refusal_on k c
+pub record PromiseOn (k : ℕ) (g : Graph) (c : Call) (backward : Bool) (r w ws : List ℕ) (a : Result Found Refusal) : Type 0 where
+  pub refusal : said a ≡ refusal_on k c
   pub gives : Gives g c backward r w ws a
 
-abbrev pub Promise : Call → Bool → List ℕ → List ℕ → List ℕ → Answer → Type 0
+abbrev pub Promise : Call → Bool → List ℕ → List ℕ → List ℕ → Result Found Refusal → Type 0
 Promise c = PromiseOn (table_refusal c.n c.sources c.targets c.kinds) (collection c) c

@@ -1,27 +1,38 @@
 // A search in one direction: sets become colours, the search core paints them, and what was painted becomes a set.
-ghost use Rattle.graph.specs.Graph.{table, turned};
+ghost use Rattle.std.specs.Prelude.{◌+◌};
+ghost use Rattle.graph.specs.Graph.{turned};
+ghost use Rattle.graph.specs.Table.{graph_of};
 ghost use Rattle.graph.specs.Arrows.{SomeOf, EveryOf};
 ghost use Rattle.graph.specs.Sets.{bit};
 ghost use Rattle.index.specs.Build.{One};
 ghost use Rattle.paint.specs.Colours.{Coloured};
+ghost use Rattle.sets.specs.Sizes.{Words};
 ghost use Rattle.reach.specs.Steps.{ColourAsk, ChooseAsk, Chosen, BeginOneAsk, BegunOne, BeginAsk, BegunBelow, GatherAsk, Gathered, NeighboursAsk, RunAsk, Found};
 
+use graph::table::Table;
 use index::build;
+use memory::layout::Direction;
+use paint::Map;
 
 // The colours: a permitted vertex becomes a reached one; 0 is not permitted.
 const PERMITTED: u32 = 1;
 
 const REACHED: u32 = 2;
 
-// The colour of a vertex is its bit in the permitted set; the colours stand in w from b on.
-fn colour(n: usize, permitted: &[u64], w: &mut [u32], b: usize)
-    requires { ColourAsk n b permitted.now w.old }
-    ensures { Coloured n b (bit permitted.now) w.old w.new }
+const REACHING: Map = Map {
+    a: PERMITTED,
+    a2: REACHED,
+    c: PERMITTED,
+    c2: REACHED,
+};
+
+// The colour of a vertex is its bit in the permitted set.
+fn colour(w: &mut [u32], along: Direction, permitted: &[u64])
+    requires { ColourAsk along.n along.base permitted.now w.old }
+    ensures { Coloured along.n along.base (bit permitted.now) w.old w.new }
 {
-    let mut v = 0;
-    while v < n {
-        w[b + v] = sets::has(permitted, v) as u32;
-        v += 1;
+    for v in 0..along.n {
+        w[along.base + v] = u32::from(sets::has(permitted, v));
     }
 }
 
@@ -37,80 +48,72 @@ fn choose(n: usize, starts: &[u64], permitted: &[u64], r: &mut [u64])
 }
 
 // Vertex x is painted and queued if it is in the set. The queue's new length.
-fn begin_one(n: usize, r: &[u64], w: &mut [u32], b: usize, x: usize, k: usize) -> usize
-    requires { BeginOneAsk n b x r.now w.old k }
-    ensures { BegunOne n b x r.now w.old k w.new result }
+fn begin_one(w: &mut [u32], along: Direction, r: &[u64], x: usize, k: usize) -> usize
+    requires { BeginOneAsk along.n along.base x r.now w.old k }
+    ensures { BegunOne along.n along.base x r.now w.old k w.new result }
 {
-    if sets::has(r, x) == 0 {
+    if !sets::has(r, x) {
         return k;
     }
-    paint::visit(n, w, b, x, PERMITTED, REACHED, PERMITTED, REACHED, k)
+    paint::visit(w, along, x, REACHING, k)
 }
 
 // The members of the set are painted and queued. The queue's length.
-fn begin(n: usize, r: &[u64], w: &mut [u32], b: usize) -> usize
-    requires { BeginAsk n b r.now w.old }
-    ensures { BegunBelow n n b r.now w.old w.new result }
+fn begin(w: &mut [u32], along: Direction, r: &[u64]) -> usize
+    requires { BeginAsk along.n along.base r.now w.old }
+    ensures { BegunBelow along.n along.n along.base r.now w.old w.new result }
 {
-    let mut x = 0;
     let mut k = 0;
-    while x < n {
-        k = begin_one(n, r, w, b, x, k);
-        x += 1;
+    for x in 0..along.n {
+        k = begin_one(w, along, r, x, k);
     }
     k
 }
 
-// The first k of the queue, which begins at q, are added to the set.
-fn gather(w: &[u32], q: usize, k: usize, r: &mut [u64])
-    requires { GatherAsk q k w.now r.old }
-    ensures { Gathered q k w.now r.old r.new }
+// The first k of the queue are added to the set.
+fn gather(w: &[u32], along: Direction, k: usize, r: &mut [u64])
+    requires { GatherAsk (along.base + along.n) k w.now r.old }
+    ensures { Gathered (along.base + along.n) k w.now r.old r.new }
 {
-    let mut i = 0;
-    while i < k {
-        let v = w[q + i] as usize;
-        sets::add(r, v);
-        i += 1;
+    for i in 0..k {
+        sets::add(r, w[along.base + along.n + i] as usize);
     }
 }
 
-// The index in the direction of the search, at the front of w: backward, the columns change places.
-pub fn neighbours(
-    n: usize,
-    sources: &[u32],
-    targets: &[u32],
-    kinds: &[u8],
-    mask: u8,
-    backward: bool,
-    w: &mut [u32],
-)
-    requires { NeighboursAsk (table n sources.now targets.now kinds.now mask) kinds.now w.old }
-    ensures { One (turned backward (table n sources.now targets.now kinds.now mask)) w.old w.new }
+// The index in the direction of the search, at the front of w: backward, the table is turned.
+pub fn neighbours(table: &Table, backward: bool, w: &mut [u32])
+    requires { NeighboursAsk (graph_of table.now) table.now.kinds.now w.old }
+    ensures { One (turned backward (graph_of table.now)) w.old w.new }
 {
     if backward {
-        build::one(n, targets, sources, kinds, mask, w);
-        return;
+        build::one(&table.turned(), w);
+    } else {
+        build::one(table, w);
     }
-    build::one(n, sources, targets, kinds, mask, w);
 }
 
 // The search along the index at the front of w: r becomes the set of what is reached. The number of counted edges looked at.
 pub fn run(
+    w: &mut [u32],
     n: usize,
     m: usize,
     starts: &[u64],
     permitted: &[u64],
-    w: &mut [u32],
     r: &mut [u64],
 ) -> usize
     requires { SomeOf n m (λ g. RunAsk g starts.now permitted.now w.old r.old) }
-    ensures { EveryOf n m (λ g. RunAsk g starts.now permitted.now w.old r.old → Found g starts.now permitted.now w.old r.old w.new r.new result) }
+    ensures fit { Words r.new }
+    ensures found { EveryOf n m (λ g. RunAsk g starts.now permitted.now w.old r.old → Found g starts.now permitted.now w.old r.old w.new r.new result) }
 {
-    let b = n + 1 + m;
-    colour(n, permitted, w, b);
+    let along = Direction {
+        n: n,
+        index: 0,
+        base: n + 1 + m,
+    };
+    colour(w, along, permitted);
     choose(n, starts, permitted, r);
-    let k = begin(n, r, w, b);
-    let s = paint::spread(n, w, 0, b, PERMITTED, REACHED, PERMITTED, REACHED, k);
-    gather(w, b + n, s.k, r);
+    let k = begin(w, along, r);
+    let s = paint::spread(w, along, REACHING, k);
+    gather(w, along, s.k, r);
     s.edges
 }

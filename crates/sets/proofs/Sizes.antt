@@ -1,12 +1,15 @@
 -- The size of a set: the ones of its words are the sum of its bits, and the number of its vertices.
-use mathlib.Core.Path.{◌≡◌, sym, ap, ap₂, ◌∙◌}
+use mathlib.Core.Path.{◌≡◌, refl, sym, ap, ap₂, ◌∙◌}
 use mathlib.Core.Bool.{false, cond}
 use mathlib.Core.List.{List}
 use Prim.Native.Nat.{ℕ, zero, suc, ◌<◌, ◌≤◌, ◌+◌, ◌-◌, ◌*◌, ◌/◌, ◌%◌, ◌^◌}
 use native.Mathlib.Omega.{arith}
 use native.Mathlib.Nat.{div-one, pow-suc}
 use native.Mathlib.Decide.{ℕ_discrete}
-use lib.ListN.{length, get_or}
+use lib.ListN.{length, get_or, take}
+use Rattle.std.specs.List.{sum_by}
+use lib.Seq.{take-length}
+use Rattle.std.proofs.lemmas.List.Sums.{sum_by_more}
 use lib.Arith.{lt-one}
 use lib.Count.{ones, ones_step}
 use lib.Dec.{T, eqb, ltb, eqb→eq, ltb→lt}
@@ -45,6 +48,17 @@ word_tally w i h =
     let b : tally (λ j. bit w (i * 64 + j)) 64 ≡ tally (λ j. get_or w i 0 / 2 ^ j % 2) 64 = tally_ext _ _ 64 e in
     let d : (i + 1) * 64 ≡ i * 64 + 64 = omega arith in
     rw d (omega (arith, ones_tally 64 (get_or w i 0) h))
+
+front_tally : (w : List ℕ) → ((i : ℕ) → get_or w i 0 < 2 ^ 64) → (k : ℕ) → k ≤ length w → sum_by ones (take k w) ≡ tally (bit w) (k * 64)
+unfolding tally
+front_tally w h zero l = refl
+front_tally w h (suc k) l =
+    let e : suc k ≡ k + 1 = omega arith in
+    rw e (sum_by_more ones w k 0 (omega arith) ∙ omega (arith, front_tally w h k (omega arith), word_tally w k (h k)))
+
+-- the ones of all words of a set
+pub words_tally : (w : List ℕ) → ((i : ℕ) → get_or w i 0 < 2 ^ 64) → sum_by ones w ≡ tally (bit w) (length w * 64)
+words_tally w h = ap (sum_by ones) (sym (take-length w)) ∙ front_tally w h (length w) (omega arith)
 
 module _ (w : List ℕ) (n : ℕ) where
   -- bits at n and above add nothing if they are zero

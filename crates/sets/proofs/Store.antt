@@ -9,6 +9,9 @@ use lib.ListN.{length, get_or, set, length-set, get_or-eq_default}
 use lib.Seq.{get_or-set_same, get_or-set_other}
 use lib.Bits.{bit_and, bit_or}
 use lib.Pow.{pow-lt}
+use lib.Dec.{eqb}
+use mir.Val.{bool_byte}
+use borrow.Author.Tests.{ne_eqb}
 use Rattle.graph.specs.Limits.{words_of}
 use Rattle.graph.specs.Sets.{bit}
 use Rattle.memory.specs.Memory.{Zeroed}
@@ -18,6 +21,13 @@ use Rattle.sets.proofs.Digits.{or_at, and_at, one_at, one_else, not_at, shifted,
 pub bit_lt : (w : List ℕ) (v : ℕ) → bit w v < 2
 unfolding bit
 bit_lt w v = omega arith
+
+-- a bit is 1 or 0 as its test says
+pub bit_byte : (w : List ℕ) (v : ℕ) → bool_byte (eqb (bit w v) 1) ≡ bit w v
+bit_byte w v = elim (ℕ_discrete (bit w v) 1) as (λ _. bool_byte (eqb (bit w v) 1) ≡ bit w v) [
+  | yes e ↦ rw e
+  | no q ↦ rw (ne_eqb (bit w v) 1 q) (omega (arith, bit_lt w v))
+]
 
 -- two lists of words with the same words below words_of n have the same vertices
 pub bit_same : (n : ℕ) (ws ws' : List ℕ) → ((j : ℕ) → j < words_of n → get_or ws' j 0 ≡ get_or ws j 0) → (v : ℕ) → v < n → bit ws' v ≡ bit ws v

@@ -4,7 +4,7 @@ use native.Mathlib.Omega.{arith}
 use native.Mathlib.Decide.{ℕ_discrete}
 use mathlib.Core.Path.{◌≡◌, refl, sym, ap, ◌∙◌}
 use mathlib.Core.Logic.{◌⊎◌, inl, inr, ⊎_elim}
-use mathlib.Core.Bool.{false}
+use mathlib.Core.Bool.{Bool, true, false}
 use mathlib.Core.List.{List}
 use lib.ListN.{length, get_or, set, length-set}
 use lib.Seq.{get_or-set_same, get_or-set_other}
@@ -50,7 +50,7 @@ module _ {g : Graph} {b r : ℕ} where
   settle_other a o = settled_none a.standing (λ u i q. o (rw (← q) at i.1))
 
   -- AN ENTERING CURSOR GOES ON
-  module _ {w : List ℕ} {v e k : ℕ} (a : PeelAsk g b r v e k w (only v)) (live : col b w v ≡ r) {w₁ : List ℕ} {x : ℕ}
+  module _ {w : List ℕ} {v e k : ℕ} (a : PeelAsk g b r v e k w (only v)) (live : col b w v ≡ r) {w₁ : List ℕ} {x : Bool}
       (adv : Advanced g.n (g.n + 1 + edges g) (into g b) b v r w w₁ x) where
     st : Standing g b r w
     st = a.standing
@@ -109,7 +109,7 @@ module _ {g : Graph} {b r : ℕ} where
     }
 
     -- its cursor stands at an edge of what remains
-    pub settle_stay : (x ≡ 0 → ⊥) → Settled g b r w e k w₁ e k (only v)
+    pub settle_stay : x ≡ true → Settled g b r w e k w₁ e k (only v)
     settle_stay o = record { peeled = peel_stay; stays = λ u i q. inl (rw (← q) entered) }
       where
         clear : Clear (rev g) (g.n + 1 + edges g) b r w v (cur (into g b) w v)
@@ -123,7 +123,7 @@ module _ {g : Graph} {b r : ℕ} where
         entered = let (i, u, h, y) = stands_left (rev g) (g.n + 1 + edges g) (into g b) b r w₁ side₁.laid v a.low stands in (i, u, h, edge_rev y)
 
     -- no edge of what remains enters v: it goes
-    module _ (z : x ≡ 0) where
+    module _ (z : x ≡ false) where
       unentered : Entered g (Rest g.n b r w) v → ⊥
       unentered (i, u, h, y) =
           on_none (rev g) (g.n + 1 + edges g) (into g b) b r w st.side (omega arith) (omega (arith, st.long)) v a.low live adv.place adv.found (adv.none z)

@@ -3,21 +3,18 @@
 
 ghost use Rattle.slices.specs.Prepare.{PrepareAsk, Prepared};
 
-use memory::decomposer::{ENTERING, MARKS};
+use memory::layout::Layout;
 
 pub mod peel;
 pub mod seeds;
 pub mod slice;
 
 // Each entering cursor is set to its vertex's first edge, and no vertex is marked.
-pub fn prepare(n: usize, m: usize, w: &mut [u32], b: usize)
-    requires { PrepareAsk n m b w.old }
-    ensures { Prepared n m b w.old n w.new }
+pub fn prepare(w: &mut [u32], at: Layout)
+    requires { PrepareAsk at.n at.m at.base w.old }
+    ensures { Prepared at.n at.m at.base w.old at.n w.new }
 {
-    let mut i = 0;
-    while i < n {
-        w[b + ENTERING * n + 2 + i] = w[n + 1 + m + i];
-        w[b + MARKS * n + 2 + i] = 0;
-        i += 1;
-    }
+    let first = at.n + 1 + at.m;
+    w.copy_within(first..first + at.n, at.entering());
+    memory::fill(w, at.marks(), at.n, 0);
 }

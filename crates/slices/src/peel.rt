@@ -5,7 +5,8 @@ ghost use Rattle.slices.specs.Seeds.{Next, Listed};
 ghost use Rattle.slices.specs.Peel.{PeelAsk, Peeled, Settled, Stuck, DrainAsk, PassAsk, PeeledAll};
 
 use crate::seeds;
-use memory::decomposer::{ENTERING, SEEDS};
+use crate::seeds::Places;
+use memory::layout::Layout;
 use prune::cursor;
 
 // How many seeds are listed, and how many vertices have gone.
@@ -16,103 +17,74 @@ pub struct Count {
 }
 
 // v goes, if it remains and no edge of what remains enters it.
-fn settle(
-    n: usize,
-    m: usize,
-    w: &mut [u32],
-    b: usize,
-    v: usize,
-    r: u32,
-    e: usize,
-    k: usize,
-) -> Count
-    requires { SomeOf n m (λ g. PeelAsk g b r v e k w.old (only v)) }
-    ensures { EveryOf n m (λ g. PeelAsk g b r v e k w.old (only v) → Settled g b r w.old e k w.new result.seeds result.gone (only v)) }
+fn settle(w: &mut [u32], at: Layout, v: usize, r: u32, count: Count) -> Count
+    requires { SomeOf at.n at.m (λ g. PeelAsk g at.base r v count.seeds count.gone w.old (only v)) }
+    ensures { EveryOf at.n at.m (λ g. PeelAsk g at.base r v count.seeds count.gone w.old (only v) → Settled g at.base r w.old count.seeds count.gone w.new result.seeds result.gone (only v)) }
 {
-    if w[b + v] != r {
-        return Count { seeds: e, gone: k };
+    if w[at.base + v] != r || cursor::advance(w, at.backward(), at.entering(), v, r) {
+        return count;
     }
-    if cursor::advance(n, w, n + 1 + m, b + ENTERING * n + 2, b, v, r) != 0 {
-        return Count { seeds: e, gone: k };
-    }
-    w[b + v] = v as u32;
-    w[b + n + k] = v as u32;
-    let more = seeds::mark_next(n, w, b, v, r, e);
+    w[at.base + v] = v as u32;
+    w[at.base + at.n + count.gone] = v as u32;
     Count {
-        seeds: more,
-        gone: k + 1,
+        seeds: seeds::mark_next(w, at, v, r, count.seeds),
+        gone: count.gone + 1,
     }
 }
 
 // The successors of u are looked at again.
-fn settle_next(
-    n: usize,
-    m: usize,
-    w: &mut [u32],
-    b: usize,
-    u: usize,
-    r: u32,
-    e0: usize,
-    k0: usize,
-) -> Count
-    requires { SomeOf n m (λ g. PeelAsk g b r u e0 k0 w.old (Next g u)) }
-    ensures { EveryOf n m (λ g. PeelAsk g b r u e0 k0 w.old (Next g u) → Settled g b r w.old e0 k0 w.new result.seeds result.gone (Next g u)) }
+fn settle_next(w: &mut [u32], at: Layout, u: usize, r: u32, before: Count) -> Count
+    requires { SomeOf at.n at.m (λ g. PeelAsk g at.base r u before.seeds before.gone w.old (Next g u)) }
+    ensures { EveryOf at.n at.m (λ g. PeelAsk g at.base r u before.seeds before.gone w.old (Next g u) → Settled g at.base r w.old before.seeds before.gone w.new result.seeds result.gone (Next g u)) }
 {
-    let mut i = w[u] as usize;
+    let i0 = w[u] as usize;
     let t = w[u + 1] as usize;
-    let mut e = e0;
-    let mut k = k0;
-    while i < t {
-        let y = w[n + 1 + i] as usize;
-        let c = settle(n, m, w, b, y, r, e, k);
-        e = c.seeds;
-        k = c.gone;
-        i += 1;
+    let mut count = before;
+    for i in i0..t {
+        let y = w[at.n + 1 + i] as usize;
+        count = settle(w, at, y, r, count);
     }
-    Count { seeds: e, gone: k }
+    count
 }
 
-// The successors of all that has gone are looked at again, until no more goes. How many seeds are listed.
-fn drain(n: usize, m: usize, w: &mut [u32], b: usize, r: u32, e0: usize, k0: usize) -> Count
-    requires { SomeOf n m (λ g. DrainAsk g b r e0 k0 w.old) }
-    ensures { EveryOf n m (λ g. DrainAsk g b r e0 k0 w.old → Peeled g b r w.old e0 k0 w.new result.seeds result.gone × Stuck g b r w.new) }
+// The successors of all that has gone are looked at again, until no more goes.
+#[tactic(auto, using(crate::proofs::Draining::drain_few))]
+fn drain(w: &mut [u32], at: Layout, r: u32, before: Count) -> Count
+    requires { SomeOf at.n at.m (λ g. DrainAsk g at.base r before.seeds before.gone w.old) }
+    ensures { EveryOf at.n at.m (λ g. DrainAsk g at.base r before.seeds before.gone w.old → Peeled g at.base r w.old before.seeds before.gone w.new result.seeds result.gone × Stuck g at.base r w.new) }
 {
     let mut h = 0;
-    let mut e = e0;
-    let mut k = k0;
-    while h < k {
-        let u = w[b + n + h] as usize;
-        let c = settle_next(n, m, w, b, u, r, e, k);
-        e = c.seeds;
-        k = c.gone;
+    let mut count = before;
+    while h < count.gone {
+        let u = w[at.base + at.n + h] as usize;
+        count = settle_next(w, at, u, r, count);
         h += 1;
     }
-    Count { seeds: e, gone: k }
+    count
 }
 
-// The seeds at the places l .. e0 - 1 of the list are looked at once.
-fn pass(n: usize, m: usize, w: &mut [u32], b: usize, r: u32, l: usize, e0: usize) -> Count
-    requires { SomeOf n m (λ g. PassAsk g b r l e0 w.old) }
-    ensures { EveryOf n m (λ g. PassAsk g b r l e0 w.old → Settled g b r w.old e0 0 w.new result.seeds result.gone (Listed n b w.old l e0)) }
+// The seeds at the given places are looked at once.
+fn pass(w: &mut [u32], at: Layout, r: u32, places: Places) -> Count
+    requires { SomeOf at.n at.m (λ g. PassAsk g at.base r places.from places.to w.old) }
+    ensures { EveryOf at.n at.m (λ g. PassAsk g at.base r places.from places.to w.old → Settled g at.base r w.old places.to 0 w.new result.seeds result.gone (Listed at.n at.base w.old places.from places.to)) }
 {
-    let mut i = l;
-    let mut e = e0;
-    let mut k = 0;
-    while i < e0 {
-        let v = w[b + SEEDS * n + 2 + i] as usize;
-        let c = settle(n, m, w, b, v, r, e, k);
-        e = c.seeds;
-        k = c.gone;
-        i += 1;
+    let seeds = at.seeds();
+    let mut count = Count {
+        seeds: places.to,
+        gone: 0,
+    };
+    for i in places.from..places.to {
+        let v = w[seeds + i] as usize;
+        count = settle(w, at, v, r, count);
     }
-    Count { seeds: e, gone: k }
+    count
 }
 
-// Seeds go until none can. How many seeds are listed.
-pub fn peel(n: usize, m: usize, w: &mut [u32], b: usize, r: u32, l: usize, e: usize) -> Count
-    requires { SomeOf n m (λ g. PassAsk g b r l e w.old) }
-    ensures { EveryOf n m (λ g. PassAsk g b r l e w.old → PeeledAll g b r w.old e w.new result.seeds result.gone) }
+// Seeds go until none can.
+pub fn peel(w: &mut [u32], at: Layout, r: u32, places: Places) -> Count
+    requires { SomeOf at.n at.m (λ g. PassAsk g at.base r places.from places.to w.old) }
+    ensures { EveryOf at.n at.m (λ g. PassAsk g at.base r places.from places.to w.old → PeeledAll g at.base r w.old places.to w.new result.seeds result.gone) }
 {
-    let c = pass(n, m, w, b, r, l, e);
-    drain(n, m, w, b, r, c.seeds, c.gone)
+    let count = pass(w, at, r, places);
+    drain(w, at, r, count)
 }

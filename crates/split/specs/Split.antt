@@ -1,17 +1,11 @@
 -- One pivot: what it reaches and what reaches it within its part. What they share is a component.
-use Rattle.std.specs.Prelude.{ℕ, ◌+◌, ◌≤◌, ◌<◌, ◌≡◌, List, ◌⊎◌, length, get_or, set}
+use Rattle.std.specs.Prelude.{ℕ, ◌+◌, ◌≤◌, ◌<◌, ◌≡◌, List, ◌⊎◌, length, get_or}
 use Rattle.graph.specs.Graph.{Graph}
 use Rattle.graph.specs.Limits.{most_vertices}
 use Rattle.graph.specs.Apart.{ForwardBackward}
 use Rattle.memory.specs.Decomposer.{col, que}
 use Rattle.memory.specs.Memory.{Framed}
 use Rattle.split.specs.State.{Owned, Stage}
-
--- r is the lower of l and v, if v's colour y is d; else l
-pub record Lower (l v y d r : ℕ) : Type 0 where
-  pub most : r ≤ l
-  pub here : y ≡ d → r ≤ v
-  pub one : (r ≡ l) ⊎ ((r ≡ v) × (y ≡ d))
 
 -- The first k of the queue are vertices.
 pub record Queued (n b : ℕ) (w : List ℕ) (k : ℕ) : Type 0 where
@@ -24,10 +18,6 @@ pub record Queued (n b : ℕ) (w : List ℕ) (k : ℕ) : Type 0 where
 pub record Lowest (n b : ℕ) (w : List ℕ) (k d l : ℕ) : Type 0 where
   pub least : (i : ℕ) → i < k → col b w (que n b w i) ≡ d → l ≤ que n b w i
   pub found : (l ≡ n) ⊎ ((i : ℕ) × (i < k) × (que n b w i ≡ l) × (col b w l ≡ d))
-
--- What stood at x has become l, if it was d.
-abbrev pub Renamed : List ℕ → ℕ → ℕ → ℕ → List ℕ → Type 0
-Renamed w x d l w' = ((get_or w x 0 ≡ d) × (w' ≡ set w x l)) ⊎ ((get_or w x 0 ≡ d → ⊥) × (w' ≡ w))
 
 pub record NameAsk (n b : ℕ) (w : List ℕ) (k d l : ℕ) : Type 0 where
   pub queued : Queued n b w k

@@ -137,6 +137,9 @@ module _ {g : Graph} {slicing b p q top : ℕ} {w ws : List ℕ} {left : ℕ} (a
   known : q < top
   known = a.take.ready.known
 
+  pub pick_room : top ≤ 1000000
+  pick_room = omega (arith, top_le a.take.ready.stage, a.take.ready.stage.tables.small)
+
   -- method 0: the set loses what each of its two searches has painted
   pub first_find : FindAsk g (paint q top q top) 0 b p q w ws left
   first_find = record {

@@ -1,3 +1,4 @@
+pub mod Methods
 pub mod Taking
 pub mod Sweeping
 pub mod Marking

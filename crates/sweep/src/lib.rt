@@ -3,15 +3,39 @@
 
 ghost use Rattle.graph.specs.Arrows.{SomeOf, EveryOf};
 ghost use Rattle.sweep.specs.Kind.{KindAsk, KindSwept};
+ghost use Rattle.sweep.specs.Methods.{slicing_of, Reads};
 
+use graph::refusal::Refusal;
+use memory::layout::Layout;
 use pivot::chooser::Chooser;
 
 pub mod chain;
 pub mod drawn;
 pub mod set;
 
+// What a pivot does to its part: method 0 splits it, method 1 cuts what the pivot reaches into slices.
+#[derive(Clone, Copy, Debug, PartialEq, Eq)]
+pub enum Method {
+    Split,
+    Slice,
+}
+
+impl TryFrom<u32> for Method {
+    type Error = Refusal;
+
+    ghost try_from_gives = { Reads };
+
+    fn try_from(method: u32) -> Result<Method, Refusal> {
+        match method {
+            0 => Ok(Method::Split),
+            1 => Ok(Method::Slice),
+            _ => Err(Refusal::UnknownChoice),
+        }
+    }
+}
+
 // The chooser's state and the draws made, and the first colour that no part has.
-#[derive(Clone, Copy)]
+#[derive(Clone, Copy, Debug, PartialEq, Eq)]
 pub struct Outcome {
     pub state: u32,
     pub draws: usize,
@@ -20,36 +44,23 @@ pub struct Outcome {
 
 // The part q, whose chain begins at place h, is swept by pivots that the chooser chooses.
 pub fn sweep(
-    n: usize,
-    m: usize,
     w: &mut [u32],
     words: &mut [u64],
-    b: usize,
+    at: Layout,
     h: usize,
     q: u32,
     chooser: Chooser,
     top: usize,
-    slicing: u32,
+    method: Method,
 ) -> Outcome
-    requires { SomeOf n m (λ g. KindAsk g slicing b h q top w.old words.old) }
-    ensures { EveryOf n m (λ g. KindAsk g slicing b h q top w.old words.old → KindSwept g slicing b q chooser.kind chooser.state top w.old words.old w.new words.new result.state result.draws result.top) }
+    requires { SomeOf at.n at.m (λ g. KindAsk g (slicing_of method) at.base h q top w.old words.old) }
+    ensures { EveryOf at.n at.m (λ g. KindAsk g (slicing_of method) at.base h q top w.old words.old → KindSwept g (slicing_of method) at.base q chooser.kind chooser.state top w.old words.old w.new words.new result.state result.draws result.top) }
 {
-    if chooser.kind == 1 {
-        let k = (n + 63) / 64;
-        return drawn::sweep(
-            n,
-            m,
-            w,
-            &mut words[..k],
-            b,
-            h,
-            q,
-            chooser.state,
-            top,
-            slicing,
-        );
+    if chooser.draws() {
+        let k = (at.n + 63) / 64;
+        return drawn::sweep(w, &mut words[..k], at, h, q, chooser.state, top, method);
     }
-    let t = chain::sweep(n, m, w, b, h, q, top, slicing);
+    let t = chain::sweep(w, at, h, q, top, method);
     Outcome {
         state: chooser.state,
         draws: 0,

@@ -1,12 +1,8 @@
-use native.Mathlib.Omega.{arith}
 use Rattle.classes.proofs.Classing.{class_skip, measure_ask, class_search}
 use Rattle.classes.proofs.class.Goals as goal
 
-pub overflow_cast-x : goal.overflow_cast-x
-overflow_cast-x c = omega (arith, c.shared_slice_known-2-1.given c.args.l)
-
-pub returns-then-x-l : goal.returns-then-x-l
-returns-then-x-l c = λ g q. search class_skip
+pub returns-then-label-l : goal.returns-then-label-l
+returns-then-label-l c = λ g q. search class_skip
 
 pub measure-requires : goal.measure-requires
 measure-requires c = let (q, l) = c.requires in (q.0, measure_ask q.1 l)

@@ -1,17 +1,13 @@
-use mathlib.Core.Path.{refl}
-use mathlib.Core.Logic.{inl, inr}
 use native.Mathlib.Omega.{arith}
-use Rattle.classes.proofs.Classing.{own_no, own_yes}
+use lib.ListN.{length}
+use mathlib.Core.Bool.{true, false}
+use Rattle.std.proofs.Common.{rules, tests}
+use Rattle.std.proofs.lemmas.Iterator.{cases_from_all, YieldsList-from_range}
+use Rattle.classes.proofs.Classing.{Passes, own_told}
 use Rattle.classes.proofs.own_labels.Goals as goal
 
-pub loop-v-init : goal.loop-v-init
-loop-v-init c = (omega arith, λ u l. absurd (omega arith))
-
-pub returns-then-not-labelled : goal.returns-then-not-labelled
-returns-then-not-labelled c = inr (refl, search own_no)
-
-pub loop-v-preserved : goal.loop-v-preserved
-loop-v-preserved c = (omega arith, search own_yes)
-
 pub returns : goal.returns
-returns c = inl (refl, λ u l. c.loop-v.invariant.1 u (omega (arith, c.loop-v-test.false)))
+returns c =
+    let k = c.args.label.now in
+    own_told k (length k) c.all.result
+    (cases_from_all _ _ c.all.result (Passes k true) (Passes k false) c.all.ensures.ran (YieldsList-from_range 0 (length k) (length k) (cc) (omega arith)) (λ x q k. search (rules, tests)) (λ x q k. search (rules, tests)))

@@ -1,31 +1,18 @@
-use mathlib.Core.Path.{◌≡◌, sym, ◌∙◌}
-use Rattle.linear.specs.Promise.{Call, label_refusal}
+use Rattle.std.proofs.lemmas.Result.{err_from_is_err_and}
+use mathlib.Core.Path.{sym}
+use Rattle.graph.proofs.Reasons.{number_some}
+use Rattle.linear.specs.Promise.{call}
 use Rattle.linear.proofs.Whole.{find_ask, clear_ask, done, refused}
 use Rattle.linear.proofs.label.Goals as goal
 
-pub returns-then-fault-ne0 : goal.returns-then-fault-ne0
-returns-then-fault-ne0 c =
-    let asked : Call = let s = c.args in
-    record { n = s.n; sources = s.sources.now; targets = s.targets.now; kinds = s.kinds.now; mask = s.mask; label = s.label.now; numbers = s.numbers.now; words = s.words.now } in
-    refused (asked) _ (c.refusal-fault.ensures c.args.mask) c.if-fault-ne0.true
-
 pub find-requires : goal.find-requires
-find-requires c =
-    let asked : Call = let s = c.args in
-    record { n = s.n; sources = s.sources.now; targets = s.targets.now; kinds = s.kinds.now; mask = s.mask; label = s.label.now; numbers = s.numbers.now; words = s.words.now } in
-    let pass : label_refusal (asked) ≡ 0 = sym (c.refusal-fault.ensures c.args.mask) ∙ c.if-fault-ne0.false in
-    find_ask (asked) (pass)
+find-requires c = find_ask (call c.args.table.now c.args.label.now c.args.numbers.now c.args.words.now) (sym c.in_ok-check.ensures)
 
 pub clear-requires : goal.clear-requires
-clear-requires c =
-    let asked : Call = let s = c.args in
-    record { n = s.n; sources = s.sources.now; targets = s.targets.now; kinds = s.kinds.now; mask = s.mask; label = s.label.now; numbers = s.numbers.now; words = s.words.now } in
-    let pass : label_refusal (asked) ≡ 0 = sym (c.refusal-fault.ensures c.args.mask) ∙ c.if-fault-ne0.false in
-    clear_ask _ (pass) c.find.ensures
+clear-requires c = clear_ask (call c.args.table.now c.args.label.now c.args.numbers.now c.args.words.now) (sym c.in_ok-check.ensures) c.find.ensures
+
+pub returns-in_err-check : goal.returns-in_err-check
+returns-in_err-check c = let p = err_from_is_err_and c.from_residual.result c.from_residual.ensures.1 in rw (p.1, p.2) (refused (call c.args.table.now c.args.label.now c.args.numbers.now c.args.words.now) _ c.in_err-check.ensures (number_some _))
 
 pub returns : goal.returns
-returns c =
-    let asked : Call = let s = c.args in
-    record { n = s.n; sources = s.sources.now; targets = s.targets.now; kinds = s.kinds.now; mask = s.mask; label = s.label.now; numbers = s.numbers.now; words = s.words.now } in
-    let pass : label_refusal (asked) ≡ 0 = sym (c.refusal-fault.ensures c.args.mask) ∙ c.if-fault-ne0.false in
-    done _ (pass) c.find.ensures c.clear.ensures
+returns c = done (call c.args.table.now c.args.label.now c.args.numbers.now c.args.words.now) (sym c.in_ok-check.ensures) c.find.ensures c.clear.ensures

@@ -5,18 +5,12 @@ use Rattle.memory.proofs.Memory.{put_none, put_step}
 use Rattle.memory.proofs.count.Goals as goal
 
 pub loop-i-init : goal.loop-i-init
-loop-i-init c = (omega arith, refl, put_none _ _ _)
+loop-i-init c = put_none _ _ _
 
 pub loop-i-preserved : goal.loop-i-preserved
-loop-i-preserved c =
-    let l = c.loop-i in
-    let p = put_step (l.i + c.args.first) refl (omega arith) l.invariant.2 in (omega arith, p.framed.long, p)
-
-pub shape_of-w : goal.shape_of-w
-shape_of-w c = c.loop-i.invariant.1
+loop-i-preserved c = put_step (c.loop-i.i + c.args.first) refl (omega arith) c.loop-i.invariant
 
 pub returns : goal.returns
 returns c =
-    let l = c.loop-i in
-    let e : l.i ≡ c.args.len = omega arith in
-    rw e at l.invariant.2
+    let e : c.loop-i.i ≡ c.args.len = omega arith in
+    rw e at c.loop-i.invariant

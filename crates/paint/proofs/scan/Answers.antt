@@ -4,21 +4,22 @@ use Rattle.paint.proofs.Levels.{scan_none, other_lt, scan_ask, scan_step}
 use Rattle.paint.proofs.scan.Goals as goal
 
 pub loop-i-init : goal.loop-i-init
-loop-i-init c = let a = c.requires in (omega arith, a.order, a, scan_none a)
+loop-i-init c = let a = c.requires in (a, scan_none a)
 
 pub overflow_cast-x : goal.overflow_cast-x
-overflow_cast-x c = let (l, _, a, z) = c.loop-i.invariant in omega (arith, other_lt a z l c.loop-i-test.true)
+overflow_cast-x c = let (a, z) = c.loop-i.invariant in omega (arith, other_lt a z c.loop-i.auto.i c.loop-i-test.true)
 
 pub visit-k-requires : goal.visit-k-requires
-visit-k-requires c = let (l, _, a, z) = c.loop-i.invariant in scan_ask a z l c.loop-i-test.true
+visit-k-requires c = let (a, z) = c.loop-i.invariant in scan_ask a z c.loop-i.auto.i c.loop-i-test.true
 
 pub loop-i-preserved : goal.loop-i-preserved
 loop-i-preserved c =
-    let (l, _, a, z) = c.loop-i.invariant in
-    (omega arith, omega arith, a, scan_step a z l c.loop-i-test.true c.visit-k.ensures)
+    let (a, z) = c.loop-i.invariant in
+    (a, scan_step a z c.loop-i.auto.i c.loop-i-test.true c.visit-k.ensures)
 
 pub returns : goal.returns
 returns c =
     let l = c.loop-i in
+    let o = c.requires.order in
     let e : l.i ≡ c.args.t = omega arith in
-    rw e at l.invariant.3
+    rw e at l.invariant.1

@@ -1,43 +1,35 @@
-use mathlib.Core.Path.{◌≡◌, sym, ◌∙◌}
+use mathlib.Core.Path.{◌≡◌, sym}
+use Rattle.std.proofs.lemmas.Result.{err_from_is_err_and}
 use Rattle.graph.specs.Arrows.{arrows}
-use Rattle.paths.specs.Promise.{Call, collection, first_refusal}
+use Rattle.paths.specs.Promise.{Call, call, collection, first_refusal}
 use Rattle.paths.specs.Walk.{SettleAsk}
 use Rattle.paths.proofs.Answers.{admitted, find_ask, clear_ask, settled_promise, first_refused}
 use Rattle.paths.proofs.path.Goals as goal
 
-pub returns-then-no-ne0 : goal.returns-then-no-ne0
-returns-then-no-ne0 c =
-    let call : Call = record { n = c.args.n; sources = c.args.sources.now; targets = c.args.targets.now; kinds = c.args.kinds.now; mask = c.args.mask; u = c.args.u; v = c.args.v; room = c.args.room.now; numbers = c.args.numbers.now; words = c.args.words.now } in
-    let asked : Call = call in
-    first_refused (asked) _ c.refusal-no.ensures c.if-no-ne0.true
+pub returns-in_err-check : goal.returns-in_err-check
+returns-in_err-check c =
+    let asked : Call = let s = c.args in call s.table.now s.u s.v s.room.now s.numbers.now s.words.now in
+    let p = err_from_is_err_and c.from_residual.result c.from_residual.ensures.1 in rw (p.1, p.2) (first_refused asked _ c.in_err-check.ensures)
 
 pub find-requires : goal.find-requires
 find-requires c =
-    let call : Call = record { n = c.args.n; sources = c.args.sources.now; targets = c.args.targets.now; kinds = c.args.kinds.now; mask = c.args.mask; u = c.args.u; v = c.args.v; room = c.args.room.now; numbers = c.args.numbers.now; words = c.args.words.now } in
-    let asked : Call = call in
-    let pass : first_refusal (asked) ≡ 0 = sym c.refusal-no.ensures ∙ c.if-no-ne0.false in
-    find_ask (asked) (pass)
+    let asked : Call = let s = c.args in call s.table.now s.u s.v s.room.now s.numbers.now s.words.now in
+    find_ask asked (sym c.in_ok-check.ensures)
 
 pub settle-answer-requires : goal.settle-answer-requires
 settle-answer-requires c =
-    let call : Call = record { n = c.args.n; sources = c.args.sources.now; targets = c.args.targets.now; kinds = c.args.kinds.now; mask = c.args.mask; u = c.args.u; v = c.args.v; room = c.args.room.now; numbers = c.args.numbers.now; words = c.args.words.now } in
-    let asked : Call = call in
-    let pass : first_refusal (asked) ≡ 0 = sym c.refusal-no.ensures ∙ c.if-no-ne0.false in
-    let ask : SettleAsk (collection (asked)) (asked).u (asked).v c.find.new.w = record { known = c.find.ensures.known; vertex = (admitted (asked) (pass)).v_low } in
-    let a = asked in (arrows (collection a), a.u, ask)
+    let asked : Call = let s = c.args in call s.table.now s.u s.v s.room.now s.numbers.now s.words.now in
+    let pass : first_refusal asked ≡ 0 = sym c.in_ok-check.ensures in
+    (arrows (collection asked), asked.u, record { known = c.find.ensures.known; vertex = (admitted asked pass).v_low })
 
 pub clear-requires : goal.clear-requires
 clear-requires c =
-    let call : Call = record { n = c.args.n; sources = c.args.sources.now; targets = c.args.targets.now; kinds = c.args.kinds.now; mask = c.args.mask; u = c.args.u; v = c.args.v; room = c.args.room.now; numbers = c.args.numbers.now; words = c.args.words.now } in
-    let asked : Call = call in
-    let pass : first_refusal (asked) ≡ 0 = sym c.refusal-no.ensures ∙ c.if-no-ne0.false in
-    clear_ask (asked) (pass) _ c.find.ensures.long
+    let asked : Call = let s = c.args in call s.table.now s.u s.v s.room.now s.numbers.now s.words.now in
+    clear_ask asked (sym c.in_ok-check.ensures) _ c.find.ensures.long
 
 pub returns : goal.returns
 returns c =
-    let call : Call = record { n = c.args.n; sources = c.args.sources.now; targets = c.args.targets.now; kinds = c.args.kinds.now; mask = c.args.mask; u = c.args.u; v = c.args.v; room = c.args.room.now; numbers = c.args.numbers.now; words = c.args.words.now } in
-    let asked : Call = call in
-    let pass : first_refusal (asked) ≡ 0 = sym c.refusal-no.ensures ∙ c.if-no-ne0.false in
-    let ask : SettleAsk (collection (asked)) (asked).u (asked).v c.find.new.w = record { known = c.find.ensures.known; vertex = (admitted (asked) (pass)).v_low } in
-    settled_promise _ (pass) _ _ _ _ c.find.ensures c.clear.ensures c.settle-answer.result
-    (let a = asked in c.settle-answer.ensures (arrows (collection a)) a.u (ask))
+    let asked : Call = let s = c.args in call s.table.now s.u s.v s.room.now s.numbers.now s.words.now in
+    let pass : first_refusal asked ≡ 0 = sym c.in_ok-check.ensures in
+    let ask : SettleAsk (collection asked) asked.u asked.v c.find.new.w = record { known = c.find.ensures.known; vertex = (admitted asked pass).v_low } in
+    settled_promise asked pass _ _ _ _ c.find.ensures c.clear.ensures c.settle-answer.result (c.settle-answer.ensures (arrows (collection asked)) asked.u ask)

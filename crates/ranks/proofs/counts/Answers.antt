@@ -1,5 +1,6 @@
-use lib.ListN.{get_or, length-set}
-use Rattle.graph.specs.Graph.{in_mask}
+use mathlib.Core.Path.{◌∙◌}
+use lib.ListN.{length-set}
+use Rattle.index.proofs.Place.{byte_digit}
 use Rattle.graph.proofs.Masks.{digit_low, kind_of}
 use Rattle.ranks.proofs.Settling.{ground_kept}
 use Rattle.ranks.proofs.Freeing.{tally_none, tally_ask, tally_fits, tally_step, tally_all}
@@ -9,28 +10,23 @@ use Rattle.ranks.proofs.counts.Goals as goal
 pub loop-e-init : goal.loop-e-init
 loop-e-init c =
     let a = c.requires in
-    (omega arith, a.kinded, ground_kept a.ground c.fill.ensures.framed.long, tally_none c.fill.ensures)
-
-pub overflow_cast-u : goal.overflow_cast-u
-overflow_cast-u c = omega (arith, c.shared_slice_known-in-loop-e-1.given c.loop-e.e)
-
-pub overflow_cast-v : goal.overflow_cast-v
-overflow_cast-v c = omega (arith, c.shared_slice_known-in-loop-e-2-1.given c.loop-e.e)
+    (ground_kept a.ground c.fill.ensures.framed.long, tally_none c.fill.ensures)
 
 pub lead-t-requires : goal.lead-t-requires
-lead-t-requires c = tally_ask c.loop-e.invariant.2 c.loop-e-test.true
+lead-t-requires c = tally_ask c.loop-e.invariant.0 c.loop-e-test.true
 
-pub counted-c-requires : goal.counted-c-requires
-counted-c-requires c = kind_of c.loop-e.invariant.1 c.loop-e-test.true
+pub counts-counts-requires : goal.counts-counts-requires
+counts-counts-requires c = kind_of c.requires.kinded c.loop-e-test.true
 
 pub overflow_add-w-in-loop-e-2 : goal.overflow_add-w-in-loop-e-2
 overflow_add-w-in-loop-e-2 c =
-    let (_, _, a, x) = c.loop-e.invariant in
-    tally_fits a x c.lead-t.ensures c.loop-e-test.true
-    (omega (arith, c.counted-c.ensures, digit_low (in_mask c.args.mask (get_or c.args.kinds.now c.loop-e.e 0))))
+    let (a, x) = c.loop-e.invariant in
+    tally_fits a x c.lead-t.ensures c.loop-e-test.true (omega (arith, c.from.ensures, byte_digit c.counts-counts.result, digit_low c.counts-counts.result))
 
 pub loop-e-preserved : goal.loop-e-preserved
-loop-e-preserved c = (omega arith, c.loop-e.invariant.1, search (ground_kept, length-set), search tally_step)
+loop-e-preserved c =
+    let (a, x) = c.loop-e.invariant in
+    (search (ground_kept, length-set), tally_step a x c.lead-t.ensures c.loop-e-test.true (rw c.counts-counts.ensures at (c.from.ensures ∙ byte_digit c.counts-counts.result)))
 
 pub returns : goal.returns
 returns c = search tally_all

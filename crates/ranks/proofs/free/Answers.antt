@@ -2,8 +2,8 @@ use mathlib.Core.Path.{refl}
 use mathlib.Core.Logic.{inl, inr}
 use Rattle.ranks.proofs.free.Goals as goal
 
-pub returns-then-w-b-ne0 : goal.returns-then-w-b-ne0
-returns-then-w-b-ne0 c = inl (c.if-w-b-ne0.true, refl, refl)
+pub returns-then-w-at-ne0 : goal.returns-then-w-at-ne0
+returns-then-w-at-ne0 c = inl (c.if-w-at-ne0.true, refl, refl)
 
 pub returns : goal.returns
-returns c = inr (c.if-w-b-ne0.false, refl, refl)
+returns c = inr (c.if-w-at-ne0.false, refl, refl)

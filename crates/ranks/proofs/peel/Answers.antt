@@ -1,5 +1,3 @@
-use Prim.Native.Nat.{◌+◌}
-use Rattle.memory.specs.Writer.{queue_at}
 use Rattle.ranks.proofs.Taking.{take_none, queue_few, take_ask, take_step, take_end}
 use Rattle.ranks.proofs.Settling.{ranking_none}
 use native.Mathlib.Omega.{arith}
@@ -7,9 +5,6 @@ use Rattle.ranks.proofs.peel.Goals as goal
 
 pub loop-h-init : goal.loop-h-init
 loop-h-init c = let (g, a) = c.requires in (omega arith, queue_few a (take_none a), ranking_none _ _ _, λ g a. take_none a)
-
-pub overflow_cast-u : goal.overflow_cast-u
-overflow_cast-u c = omega (arith, c.slice_known-in-loop-h-1.given (queue_at c.args.n c.args.b + c.loop-h.h))
 
 pub scan-k-requires : goal.scan-k-requires
 scan-k-requires c =

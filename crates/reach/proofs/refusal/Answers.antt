@@ -1,51 +1,32 @@
-use native.Mathlib.Omega.{arith}
-use mathlib.Core.Path.{◌≡◌, sym, ◌∙◌}
-use borrow.Author.Tests.{eq-eqb, ne_eqb}
-use Rattle.graph.specs.Refusal.{given, ◌or◌, table_refusal}
-use Rattle.graph.proofs.Refusals.{table_limits, or_stop}
+use mathlib.Core.Path.{sym, ◌∙◌}
+use Rattle.std.proofs.lemmas.Result.{err_from_is_err_and}
+use Rattle.graph.specs.Refusal.{given, ◌or◌}
+use Rattle.graph.proofs.Reasons.{or_err}
+use Rattle.graph.proofs.Refusals.{table_limits}
 use Rattle.reach.specs.Search.{refusal_on}
 use Rattle.reach.proofs.refusal.Goals as goal
+use Rattle.reach.proofs.refusal.Goals.{then-ill_sized-via-then-ill_sized, then-ill_sized-via-else-ill_sized+then-ill_sized-2, then-ill_sized-via-else-ill_sized+else-ill_sized-2+then-ill_sized-3}
 
-pub returns-then-fault-ne0 : goal.returns-then-fault-ne0
+pub returns-in_err-check : goal.returns-in_err-check
+unfolding refusal_on
+returns-in_err-check c = let p = err_from_is_err_and c.from_residual.result c.from_residual.ensures.1 in rw (p.1, p.2) (or_err _ _ _ c.in_err-check.ensures)
+
+pub returns-then-ill_sized : goal.returns-then-ill_sized
 unfolding refusal_on given ◌or◌
-returns-then-fault-ne0 c = λ mask. sym (or_stop _ _ (λ e. c.if-fault-ne0.true (c.check-fault.ensures ∙ e)) ∙ sym c.check-fault.ensures)
-
-pub overflow_add-size : goal.overflow_add-size
-overflow_add-size c =
-    let pass : (let s = c.args in table_refusal s.n s.sources.now s.targets.now s.kinds.now ≡ 0) = sym c.check-fault.ensures ∙ c.if-fault-ne0.false in
-    omega (arith, (table_limits _ _ _ _ (pass)).small)
-
-pub returns-then-starts-size : goal.returns-then-starts-size
-unfolding refusal_on given ◌or◌
-returns-then-starts-size c =
-    let pass : (let s = c.args in table_refusal s.n s.sources.now s.targets.now s.kinds.now ≡ 0) = sym c.check-fault.ensures ∙ c.if-fault-ne0.false in
-    λ mask. rw (pass, ne_eqb _ _ c.if-starts-size.true)
-
-pub returns-then-permitted-size : goal.returns-then-permitted-size
-unfolding refusal_on given ◌or◌
-returns-then-permitted-size c =
-    let pass : (let s = c.args in table_refusal s.n s.sources.now s.targets.now s.kinds.now ≡ 0) = sym c.check-fault.ensures ∙ c.if-fault-ne0.false in
-    λ mask. rw (pass, eq-eqb _ _ c.if-starts-size.false, ne_eqb _ _ c.if-permitted-size.true)
-
-pub returns-then-reached-size : goal.returns-then-reached-size
-unfolding refusal_on given ◌or◌
-returns-then-reached-size c =
-    let pass : (let s = c.args in table_refusal s.n s.sources.now s.targets.now s.kinds.now ≡ 0) = sym c.check-fault.ensures ∙ c.if-fault-ne0.false in
-    λ mask. rw (pass, eq-eqb _ _ c.if-starts-size.false, eq-eqb _ _ c.if-permitted-size.false, ne_eqb _ _ c.if-reached-size.true)
+returns-then-ill_sized c =
+    elim c.then-ill_sized.branch [
+      | then-ill_sized-via-then-ill_sized w ↦ rw (sym c.in_ok-check.ensures, sym c.ill_sized.ensures ∙ w.if-ill_sized.true)
+      | then-ill_sized-via-else-ill_sized+then-ill_sized-2 w ↦ rw (sym c.in_ok-check.ensures, sym c.ill_sized.ensures ∙ w.if-ill_sized.false, sym w.ill_sized-else-ill_sized.ensures ∙ w.if-ill_sized-2.true)
+      | then-ill_sized-via-else-ill_sized+else-ill_sized-2+then-ill_sized-3 w ↦ rw (sym c.in_ok-check.ensures, sym c.ill_sized.ensures ∙ w.if-ill_sized.false, sym w.ill_sized-else-ill_sized.ensures ∙ w.if-ill_sized-2.false, sym w.ill_sized-else-ill_sized-2.ensures ∙ w.if-ill_sized-3.true)
+    ]
 
 pub lacking-requires : goal.lacking-requires
-lacking-requires c =
-    let pass : (let s = c.args in table_refusal s.n s.sources.now s.targets.now s.kinds.now ≡ 0) = sym c.check-fault.ensures ∙ c.if-fault-ne0.false in
-    table_limits _ _ _ _ (pass)
+lacking-requires c = table_limits _ _ _ _ (sym c.in_ok-check.ensures)
 
 pub returns-then-lacking : goal.returns-then-lacking
 unfolding refusal_on given ◌or◌
-returns-then-lacking c =
-    let pass : (let s = c.args in table_refusal s.n s.sources.now s.targets.now s.kinds.now ≡ 0) = sym c.check-fault.ensures ∙ c.if-fault-ne0.false in
-    λ mask. rw (pass, eq-eqb _ _ c.if-starts-size.false, eq-eqb _ _ c.if-permitted-size.false, eq-eqb _ _ c.if-reached-size.false, sym c.lacking.ensures ∙ c.if-lacking.true)
+returns-then-lacking c = rw (sym c.in_ok-check.ensures, sym c.ill_sized.ensures ∙ c.if-ill_sized.false, sym c.ill_sized-else-ill_sized.ensures ∙ c.if-ill_sized-2.false, sym c.ill_sized-else-ill_sized-2.ensures ∙ c.if-ill_sized-3.false, sym c.lacking.ensures ∙ c.if-lacking.true)
 
 pub returns : goal.returns
 unfolding refusal_on given ◌or◌
-returns c =
-    let pass : (let s = c.args in table_refusal s.n s.sources.now s.targets.now s.kinds.now ≡ 0) = sym c.check-fault.ensures ∙ c.if-fault-ne0.false in
-    λ mask. rw (pass, eq-eqb _ _ c.if-starts-size.false, eq-eqb _ _ c.if-permitted-size.false, eq-eqb _ _ c.if-reached-size.false, sym c.lacking.ensures ∙ c.if-lacking.false)
+returns c = rw (sym c.in_ok-check.ensures, sym c.ill_sized.ensures ∙ c.if-ill_sized.false, sym c.ill_sized-else-ill_sized.ensures ∙ c.if-ill_sized-2.false, sym c.ill_sized-else-ill_sized-2.ensures ∙ c.if-ill_sized-3.false, sym c.lacking.ensures ∙ c.if-lacking.false)

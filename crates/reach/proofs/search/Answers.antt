@@ -1,49 +1,36 @@
 use native.Mathlib.Omega.{arith}
-use mathlib.Core.Path.{◌≡◌, refl, sym, ◌∙◌}
-use Rattle.reach.specs.Search.{Call, search_refusal, table_of}
-use Rattle.reach.specs.Steps.{Found}
+use mathlib.Core.Path.{refl, sym, ◌∙◌}
+use Rattle.std.proofs.lemmas.Result.{err_from_is_err_and}
+use Rattle.graph.proofs.Reasons.{number_some}
 use Rattle.reach.proofs.Outcome.{accepted, neighbours_ask, run_ask, run_found, clear_ask, finished}
 use Rattle.reach.proofs.search.Goals as goal
 
-pub returns-then-fault-ne0 : goal.returns-then-fault-ne0
-returns-then-fault-ne0 c = record { refusal = c.refusal-fault.ensures c.args.mask; gives = record { refused = c.if-fault-ne0.true; reached = refl; numbers = refl; words = refl } }
+pub returns-in_err-refusal : goal.returns-in_err-refusal
+returns-in_err-refusal c =
+    let p = err_from_is_err_and c.from_residual.result c.from_residual.ensures.1 in
+    rw (p.1, p.2) (record { refusal = c.in_err-refusal.ensures; gives = record { refused = number_some _; reached = refl; numbers = refl; words = refl } })
 
 pub neighbours-requires : goal.neighbours-requires
-neighbours-requires c =
-    let asked : Call = let s = c.args in
-    record { n = s.n; sources = s.sources.now; targets = s.targets.now; kinds = s.kinds.now; mask = s.mask; starts = s.starts.now; permitted = s.permitted.now; reached = s.reached.now; numbers = s.numbers.now; words = s.words.now } in
-    let pass : search_refusal (asked) ≡ 0 = sym (c.refusal-fault.ensures c.args.mask) ∙ c.if-fault-ne0.false in
-    neighbours_ask (asked) (pass)
+neighbours-requires c = neighbours_ask _ (sym c.in_ok-refusal.ensures)
 
 pub run-edges-requires : goal.run-edges-requires
-run-edges-requires c =
-    let asked : Call = let s = c.args in
-    record { n = s.n; sources = s.sources.now; targets = s.targets.now; kinds = s.kinds.now; mask = s.mask; starts = s.starts.now; permitted = s.permitted.now; reached = s.reached.now; numbers = s.numbers.now; words = s.words.now } in
-    let pass : search_refusal (asked) ≡ 0 = sym (c.refusal-fault.ensures c.args.mask) ∙ c.if-fault-ne0.false in
-    run_ask (asked) (pass) c.args.backward c.neighbours.ensures
+run-edges-requires c = run_ask _ (sym c.in_ok-refusal.ensures) c.args.backward c.neighbours.ensures
 
 pub size-vertices-requires : goal.size-vertices-requires
 size-vertices-requires c =
-    let asked : Call = let s = c.args in
-    record { n = s.n; sources = s.sources.now; targets = s.targets.now; kinds = s.kinds.now; mask = s.mask; starts = s.starts.now; permitted = s.permitted.now; reached = s.reached.now; numbers = s.numbers.now; words = s.words.now } in
-    let pass : search_refusal (asked) ≡ 0 = sym (c.refusal-fault.ensures c.args.mask) ∙ c.if-fault-ne0.false in
-    let ran : (let a = asked in let w = c.run-edges.new.w in let r = c.run-edges.new.r in Found (table_of a c.args.backward) a.starts a.permitted c.neighbours.new.w a.reached w r c.run-edges.result) = run_found (asked) (pass) c.args.backward c.neighbours.ensures c.run-edges.ensures in
-    let a = accepted _ (pass) in
-    omega (arith, a.reached, a.table.small, (ran).long)
+    let pass = sym c.in_ok-refusal.ensures in
+    let a = accepted _ pass in
+    omega (arith, a.reached, a.table.small, (run_found _ pass c.args.backward c.neighbours.ensures c.run-edges.ensures.found).long)
 
 pub clear-requires : goal.clear-requires
 clear-requires c =
-    let asked : Call = let s = c.args in
-    record { n = s.n; sources = s.sources.now; targets = s.targets.now; kinds = s.kinds.now; mask = s.mask; starts = s.starts.now; permitted = s.permitted.now; reached = s.reached.now; numbers = s.numbers.now; words = s.words.now } in
-    let pass : search_refusal (asked) ≡ 0 = sym (c.refusal-fault.ensures c.args.mask) ∙ c.if-fault-ne0.false in
-    let ran : (let a = asked in let w = c.run-edges.new.w in let r = c.run-edges.new.r in Found (table_of a c.args.backward) a.starts a.permitted c.neighbours.new.w a.reached w r c.run-edges.result) = run_found (asked) (pass) c.args.backward c.neighbours.ensures c.run-edges.ensures in
-    clear_ask _ (pass) _ ((ran).frame.long ∙ c.neighbours.ensures.long)
+    let pass = sym c.in_ok-refusal.ensures in
+    clear_ask _ pass _ ((run_found _ pass c.args.backward c.neighbours.ensures c.run-edges.ensures.found).frame.long ∙ c.neighbours.ensures.long)
 
 pub returns : goal.returns
 returns c =
-    let asked : Call = let s = c.args in
-    record { n = s.n; sources = s.sources.now; targets = s.targets.now; kinds = s.kinds.now; mask = s.mask; starts = s.starts.now; permitted = s.permitted.now; reached = s.reached.now; numbers = s.numbers.now; words = s.words.now } in
-    let pass : search_refusal (asked) ≡ 0 = sym (c.refusal-fault.ensures c.args.mask) ∙ c.if-fault-ne0.false in
-    let ran : (let a = asked in let w = c.run-edges.new.w in let r = c.run-edges.new.r in Found (table_of a c.args.backward) a.starts a.permitted c.neighbours.new.w a.reached w r c.run-edges.result) = run_found (asked) (pass) c.args.backward c.neighbours.ensures c.run-edges.ensures in
-    let e = pass in
-    record { refusal = sym e; gives = finished _ e _ c.neighbours.ensures (ran) (λ i. (c.slice_known-6-1.given i).fits) c.size-vertices.ensures c.clear.ensures }
+    let e = sym c.in_ok-refusal.ensures in
+    record {
+      refusal = sym e;
+      gives = finished _ e _ c.neighbours.ensures (run_found _ e c.args.backward c.neighbours.ensures c.run-edges.ensures.found) c.run-edges.ensures.fit c.size-vertices.ensures c.clear.ensures;
+    }

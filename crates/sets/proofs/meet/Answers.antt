@@ -1,14 +1,9 @@
-use native.Mathlib.Omega.{arith}
-use lib.Bits.{and_zero_l}
-use Rattle.sets.proofs.Zip.{zip_none, zip_more, zip_all}
+use lib.Bits.{bit_and, and_zero_l}
+use Prim.Native.Nat.{min}
+use Rattle.std.proofs.Common.{rules}
+use Rattle.sets.proofs.Zip.{zip_all}
 use Rattle.sets.proofs.Digits.{and_at}
 use Rattle.sets.proofs.meet.Goals as goal
 
-pub loop-i-init : goal.loop-i-init
-loop-i-init c = (omega arith, zip_none)
-
-pub loop-i-preserved : goal.loop-i-preserved
-loop-i-preserved c = (omega arith, zip_more (omega arith) c.loop-i.invariant.1)
-
 pub returns : goal.returns
-returns c = zip_all (and_zero_l 0) and_at c.requires (omega arith) c.loop-i.invariant.1
+returns c = zip_all bit_and min (and_zero_l 0) and_at c.requires c.combine.ensures.long (λ i h. let p = c.combine.ensures.each i h in search rules)

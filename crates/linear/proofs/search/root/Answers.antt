@@ -1,12 +1,6 @@
 use native.Mathlib.Omega.{arith}
-use Rattle.linear.proofs.Roots.{root_seen, root_begun, root_run, root_few}
+use Rattle.linear.proofs.Roots.{root_begun, root_run, root_few}
 use Rattle.linear.proofs.search.root.Goals as goal
-
-pub overflow_cast-label : goal.overflow_cast-label
-overflow_cast-label c = omega (arith, c.slice_known-3-1.given c.args.r)
-
-pub returns-then-label-r : goal.returns-then-label-r
-returns-then-label-r c = λ g a. root_seen a c.if-label-r.true
 
 pub run-requires : goal.run-requires
 run-requires c =

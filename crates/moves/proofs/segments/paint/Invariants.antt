@@ -1,9 +1,5 @@
-use Prim.Native.Nat.{◌-◌, ◌≤◌}
 use Rattle.moves.specs.Moves.{Painted}
 use Rattle.moves.proofs.segments.paint.Given as goal
 
-abbrev pub invariant-loop-i : goal.invariant-loop-i
-invariant-loop-i l = (l.a ≤ l.i) × (l.i ≤ l.e) × Painted l.a l.i l.l l.w l.initial.label l.label
-
-abbrev pub decreases-loop-i : goal.decreases-loop-i
-decreases-loop-i l = l.e - l.i
+abbrev pub invariant-loop-v : goal.invariant-loop-v
+invariant-loop-v l = Painted 0 l.v-index l.l l.members l.initial.label l.label

@@ -1,9 +1,5 @@
-use Prim.Native.Nat.{◌-◌}
 use Rattle.paths.proofs.Walks.{Passing}
 use Rattle.paths.proofs.walk.first.Given as goal
 
 abbrev pub invariant-loop-i : goal.invariant-loop-i
 invariant-loop-i l = Passing l.sources l.w l.eb l.b l.d l.i0 l.t l.i
-
-abbrev pub decreases-loop-i : goal.decreases-loop-i
-decreases-loop-i l = l.t - l.i

@@ -1,12 +1,9 @@
-use Prim.Native.Nat.{◌≤◌, ◌-◌}
+use Prim.Native.Nat.{◌+◌}
 use Rattle.graph.specs.Arrows.{SomeOf, EveryOf}
-use Rattle.prune.specs.Prune.{AroundAsk, Around}
+use Rattle.prune.specs.Prune.{NearAsk, Around}
 use Rattle.prune.proofs.queue.around.Given as goal
 
 abbrev pub invariant-loop-i : goal.invariant-loop-i
 invariant-loop-i l =
-    (l.i0 ≤ l.i) × (l.i ≤ l.t) × SomeOf l.n l.m (λ g. AroundAsk g l.eb l.b l.i0 l.t l.q l.k0 l.initial.w × Around g l.eb l.b l.i0 l.i l.q l.k0 l.initial.w l.w l.k)
-    × EveryOf l.n l.m (λ g. AroundAsk g l.eb l.b l.i0 l.t l.q l.k0 l.initial.w → Around g l.eb l.b l.i0 l.i l.q l.k0 l.initial.w l.w l.k)
-
-abbrev pub decreases-loop-i : goal.decreases-loop-i
-decreases-loop-i l = l.t - l.i
+    SomeOf l.at.n l.at.m (λ g. NearAsk g l.along.index l.at.base l.u l.q l.k0 l.initial.w × Around g (l.along.index + g.n + 1) l.at.base l.i0 l.i l.q l.k0 l.initial.w l.w l.k)
+    × EveryOf l.at.n l.at.m (λ g. NearAsk g l.along.index l.at.base l.u l.q l.k0 l.initial.w → Around g (l.along.index + g.n + 1) l.at.base l.i0 l.i l.q l.k0 l.initial.w l.w l.k)

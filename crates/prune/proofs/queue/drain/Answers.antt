@@ -1,19 +1,7 @@
 use native.Mathlib.Omega.{arith}
-use Rattle.prune.proofs.Steps.{pruned_none, pruned_more}
+use Rattle.prune.proofs.Steps.{pruned_more}
 use Rattle.prune.proofs.Rounds.{drain_beside, drain_step, drain_end}
 use Rattle.prune.proofs.queue.drain.Goals as goal
-
-pub loop-h-init : goal.loop-h-init
-loop-h-init c = let (g, a) = c.requires in (omega arith, (g, (a, pruned_none a.state, a.standing)), λ g a. (pruned_none a.state, a.standing))
-
-pub overflow_cast-u : goal.overflow_cast-u
-overflow_cast-u c = let l = c.loop-h in omega (arith, (l.invariant.1.1.1.state.gone l.h c.loop-h-test.true).0)
-
-pub beside-k-requires : goal.beside-k-requires
-beside-k-requires c =
-    let l = c.loop-h in
-    let (_, (g, (a, z, t)), f) = l.invariant in
-    (g, drain_beside l.h z.state t c.loop-h-test.true)
 
 pub loop-h-preserved : goal.loop-h-preserved
 loop-h-preserved c =

@@ -6,8 +6,9 @@ use Rattle.prune.proofs.queue.drain.Given as goal
 
 abbrev pub invariant-loop-h : goal.invariant-loop-h
 invariant-loop-h l =
-    (l.h ≤ l.k) × SomeOf l.n l.m (λ g. DrainAsk g l.b l.q l.k0 l.initial.w × Pruned g l.b l.q l.k0 l.initial.w l.w l.k × AllStanding g l.b l.q all l.h l.k l.w)
-    × EveryOf l.n l.m (λ g. DrainAsk g l.b l.q l.k0 l.initial.w → Pruned g l.b l.q l.k0 l.initial.w l.w l.k × AllStanding g l.b l.q all l.h l.k l.w)
+    (l.h ≤ l.k)
+    × SomeOf l.at.n l.at.m (λ g. DrainAsk g l.at.base l.q l.k0 l.initial.w × Pruned g l.at.base l.q l.k0 l.initial.w l.w l.k × AllStanding g l.at.base l.q all l.h l.k l.w)
+    × EveryOf l.at.n l.at.m (λ g. DrainAsk g l.at.base l.q l.k0 l.initial.w → Pruned g l.at.base l.q l.k0 l.initial.w l.w l.k × AllStanding g l.at.base l.q all l.h l.k l.w)
 
 abbrev pub decreases-loop-h : goal.decreases-loop-h
-decreases-loop-h l = l.n - l.h
+decreases-loop-h l = l.at.n - l.h

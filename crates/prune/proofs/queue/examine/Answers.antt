@@ -1,25 +1,13 @@
-use native.Mathlib.Omega.{arith}
-use lib.ListN.{length-set}
-use Rattle.prune.proofs.Goes.{examine_skip, tied_ask, k_low, examine_stay, examine_go}
+use Rattle.prune.proofs.Goes.{examine_skip, tied_ask, examine_stay, examine_go}
 use Rattle.prune.proofs.queue.examine.Goals as goal
+use Rattle.prune.proofs.queue.examine.Goals.{then-w-at-via-then-w-at, then-w-at-via-else-w-at+then-tied}
 
-pub returns-then-w-b : goal.returns-then-w-b
-returns-then-w-b c = λ g a. examine_skip a c.if-w-b.true
-
-pub tied-requires : goal.tied-requires
-tied-requires c = let (g, a) = c.requires in (g, tied_ask a c.if-w-b.false)
-
-pub returns-then-tied-ne0 : goal.returns-then-tied-ne0
-returns-then-tied-ne0 c =
-    let h = c.if-w-b.false in
-    λ g a. examine_stay a h (c.tied.ensures g (tied_ask a h)) c.if-tied-ne0.true
-
-pub bounds-w-b-3 : goal.bounds-w-b-3
-bounds-w-b-3 c =
-    let (g, a) = c.requires in
-    simp length-set (omega (arith, k_low a c.if-w-b.false, a.state.walking.long))
+pub returns-then-w-at : goal.returns-then-w-at
+returns-then-w-at c =
+    λ g a. elim c.then-w-at.branch [
+      | then-w-at-via-then-w-at w ↦ rw w.w-is (examine_skip a w.if-w-at.true)
+      | then-w-at-via-else-w-at+then-tied w ↦ rw w.w-is (examine_stay a w.if-w-at.false (w.tied.ensures g (tied_ask a w.if-w-at.false)) w.if-tied.true)
+    ]
 
 pub returns : goal.returns
-returns c =
-    let h = c.if-w-b.false in
-    λ g a. examine_go a h (c.tied.ensures g (tied_ask a h)) c.if-tied-ne0.false
+returns c = λ g a. examine_go a c.if-w-at.false (c.tied.ensures g (tied_ask a c.if-w-at.false)) c.if-tied.false

@@ -1,36 +1,23 @@
 use native.Mathlib.Omega.{arith}
 use Rattle.prune.proofs.Along.{along_head, along_next}
 use Rattle.prune.proofs.Steps.{pruned_none, pruned_more}
-use Rattle.prune.proofs.Rounds.{pass_state, pass_none, pass_end, pass_next, pass_low, pass_examine, pass_step}
+use Rattle.prune.proofs.Rounds.{pass_state, pass_none, pass_end, pass_next, pass_examine, pass_step}
 use Rattle.prune.proofs.queue.pass.Goals as goal
 
 pub loop-i-init : goal.loop-i-init
 loop-i-init c = let (g, a) = c.requires in ((g, (a, pruned_none (pass_state a))), along_head a.chain, λ g a. (pruned_none (pass_state a), pass_none a))
 
-pub overflow_cast-v : goal.overflow_cast-v
-overflow_cast-v c = let ((g, (a, z)), l, f) = c.loop-i.invariant in omega (arith, pass_low a l z c.loop-i-test.true, a.small)
-
-pub overflow_cast-y : goal.overflow_cast-y
-overflow_cast-y c =
-    let ((g, (a, z)), l, f) = c.loop-i.invariant in
-    let h = c.loop-i-test.true in
-    omega (arith, pass_next a l z h, (a.chain.next _ h (l.here h)).most, a.small)
-
 pub examine-k-requires : goal.examine-k-requires
-examine-k-requires c = let ((g, (a, z)), l, f) = c.loop-i.invariant in (g, pass_examine a l z c.loop-i-test.true)
-
-pub loop-i-smaller : goal.loop-i-smaller
-loop-i-smaller c =
+examine-k-requires c =
     let ((g, (a, z)), l, f) = c.loop-i.invariant in
-    let h = c.loop-i-test.true in
-    omega (arith, pass_next a l z h, (a.chain.next _ h (l.here h)).more)
+    rw (c.forward-forward.ensures, c.backward-backward.ensures, c.order-order.ensures) (g, pass_examine a l z c.loop-i-test.true)
 
 pub loop-i-preserved : goal.loop-i-preserved
 loop-i-preserved c =
     let ((g, (a, z)), l, f) = c.loop-i.invariant in
     let h = c.loop-i-test.true in
-    let y = c.examine-k.ensures in
-    rw (pass_next a l z h) (
+    let y = rw (c.forward-forward.ensures, c.backward-backward.ensures, c.order-order.ensures) at c.examine-k.ensures in
+    rw (c.chains-chains.ensures, pass_next a l z h) (
       (g, (a, pruned_more z (y g (pass_examine a l z h)).pruned)),
       along_next a.chain l h,
       λ g a. let (p, t) = f g a in let e = y g (pass_examine a l p h) in (pruned_more p e.pruned, pass_step a l p h e t),

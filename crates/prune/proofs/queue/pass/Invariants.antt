@@ -8,8 +8,8 @@ use Rattle.prune.proofs.queue.pass.Given as goal
 
 abbrev pub invariant-loop-i : goal.invariant-loop-i
 invariant-loop-i l =
-    SomeOf l.n l.m (λ g. TrimAsk g l.b l.h l.q l.initial.w × Pruned g l.b l.q 0 l.initial.w l.w l.k) × Along l.n l.b l.q l.initial.w l.i
-    × EveryOf l.n l.m (λ g. TrimAsk g l.b l.h l.q l.initial.w → Pruned g l.b l.q 0 l.initial.w l.w l.k × AllStanding g l.b l.q (Before l.n l.b l.initial.w l.i) 0 l.k l.w)
+    SomeOf l.at.n l.at.m (λ g. TrimAsk g l.at.base l.h l.q l.initial.w × Pruned g l.at.base l.q 0 l.initial.w l.w l.k) × Along l.at.n l.at.base l.q l.initial.w l.i
+    × EveryOf l.at.n l.at.m (λ g. TrimAsk g l.at.base l.h l.q l.initial.w → Pruned g l.at.base l.q 0 l.initial.w l.w l.k × AllStanding g l.at.base l.q (Before l.at.n l.at.base l.initial.w l.i) 0 l.k l.w)
 
 abbrev pub decreases-loop-i : goal.decreases-loop-i
-decreases-loop-i l = l.n - l.i
+decreases-loop-i l = l.at.n - l.i

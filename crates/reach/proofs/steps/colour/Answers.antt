@@ -1,17 +1,14 @@
 use native.Mathlib.Omega.{arith}
-use mathlib.Core.Path.{◌≡◌}
-use Rattle.sets.proofs.Store.{bit_lt}
+use mathlib.Core.Path.{◌≡◌, ◌∙◌}
+use Rattle.sets.proofs.Store.{bit_byte}
 use Rattle.paint.proofs.Painting.{coloured_none, coloured_more}
 use Rattle.reach.proofs.steps.colour.Goals as goal
 
 pub loop-v-init : goal.loop-v-init
-loop-v-init c = (omega arith, coloured_none)
-
-pub overflow_cast-w : goal.overflow_cast-w
-overflow_cast-w c = omega (arith, bit_lt c.args.permitted.now c.loop-v.v)
+loop-v-init c = coloured_none
 
 pub loop-v-preserved : goal.loop-v-preserved
-loop-v-preserved c = (omega arith, coloured_more (omega arith) c.has.ensures c.loop-v.invariant.1)
+loop-v-preserved c = coloured_more (omega arith) (c.from.ensures ∙ rw c.has.ensures (bit_byte _ _)) c.loop-v.invariant
 
 pub returns : goal.returns
-returns c = let e : c.loop-v.v ≡ c.args.n = omega arith in rw e at c.loop-v.invariant.1
+returns c = let e : c.loop-v.v ≡ c.args.along.n = omega arith in rw e at c.loop-v.invariant

@@ -1,20 +1,16 @@
-use Prim.Native.Nat.{◌+◌}
 use native.Mathlib.Omega.{arith}
 use mathlib.Core.Path.{◌≡◌}
 use Rattle.reach.proofs.Between.{gathered_none, gathered_more}
 use Rattle.reach.proofs.steps.gather.Goals as goal
 
 pub loop-i-init : goal.loop-i-init
-loop-i-init c = (omega arith, gathered_none)
-
-pub overflow_cast-v : goal.overflow_cast-v
-overflow_cast-v c = omega (arith, c.shared_slice_known-in-loop-i-1.given (c.args.q + c.loop-i.i))
+loop-i-init c = gathered_none
 
 pub add-requires : goal.add-requires
-add-requires c = omega (arith, c.requires.inside c.loop-i.i (omega arith), c.loop-i.invariant.1.long)
+add-requires c = omega (arith, c.requires.inside c.loop-i.i (omega arith), c.loop-i.invariant.long)
 
 pub loop-i-preserved : goal.loop-i-preserved
-loop-i-preserved c = (omega arith, gathered_more c.loop-i.invariant.1 c.add.ensures)
+loop-i-preserved c = gathered_more c.loop-i.invariant c.add.ensures
 
 pub returns : goal.returns
-returns c = let e : c.loop-i.i ≡ c.args.k = omega arith in rw e at c.loop-i.invariant.1
+returns c = let e : c.loop-i.i ≡ c.args.k = omega arith in rw e at c.loop-i.invariant

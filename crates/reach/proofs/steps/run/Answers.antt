@@ -1,4 +1,3 @@
-use native.Mathlib.Omega.{arith}
 use Rattle.graph.specs.Arrows.{sized}
 use Rattle.reach.proofs.Result.{spread_ask, gather_ask, found}
 use Rattle.reach.proofs.steps.run.Goals as goal
@@ -8,9 +7,6 @@ spread-s-requires c =
     let (g, a) = c.requires in
     (sized c.args.m g, spread_ask a c.colour.ensures c.choose.ensures c.begin-k.ensures)
 
-pub overflow_add-b-3 : goal.overflow_add-b-3
-overflow_add-b-3 c = omega (arith, c.requires.1.table)
-
 pub gather-requires : goal.gather-requires
 gather-requires c =
     let (g, a) = c.requires in
@@ -19,8 +15,8 @@ gather-requires c =
     let z = c.begin-k.ensures in
     gather_ask a x y z (c.spread-s.ensures (sized c.args.m g) (spread_ask a x y z))
 
-pub returns : goal.returns
-returns c =
+pub returns-clause-found : goal.returns-clause-found
+returns-clause-found c =
     let x = c.colour.ensures in
     let y = c.choose.ensures in
     let z = c.begin-k.ensures in

@@ -1,7 +1,5 @@
-use Prim.Native.Nat.{◌≤◌, ◌-◌}
-use mathlib.Core.Path.{◌≡◌}
-use lib.ListN.{length}
-use Rattle.graph.specs.Arrows.{EveryOf}
+use Prim.Native.Nat.{◌≤◌}
+use Rattle.graph.specs.Arrows.{SomeOf, EveryOf}
 use Rattle.index.specs.Index.{first}
 use Rattle.slices.specs.Seeds.{Next}
 use Rattle.slices.specs.Peel.{PeelAsk, Settled}
@@ -9,7 +7,6 @@ use Rattle.slices.proofs.Walking.{Seen}
 use Rattle.slices.proofs.peel.settle_next.Given as goal
 
 abbrev pub invariant-loop-i : goal.invariant-loop-i
-invariant-loop-i l = (length l.w ≡ length l.initial.w) × EveryOf l.n l.m (λ g. PeelAsk g l.b l.r l.u l.e0 l.k0 l.initial.w (Next g l.u) → (first g l.u ≤ l.i) × Settled g l.b l.r l.initial.w l.e0 l.k0 l.w l.e l.k (Seen g l.u l.initial.w l.i))
-
-abbrev pub decreases-loop-i : goal.decreases-loop-i
-decreases-loop-i l = l.t - l.i
+invariant-loop-i l =
+    SomeOf l.at.n l.at.m (λ g. PeelAsk g l.at.base l.r l.u l.fn.before.seeds l.fn.before.gone l.initial.w (Next g l.u) × (first g l.u ≤ l.i) × Settled g l.at.base l.r l.initial.w l.fn.before.seeds l.fn.before.gone l.w l.count.seeds l.count.gone (Seen g l.u l.initial.w l.i))
+    × EveryOf l.at.n l.at.m (λ g. PeelAsk g l.at.base l.r l.u l.fn.before.seeds l.fn.before.gone l.initial.w (Next g l.u) → (first g l.u ≤ l.i) × Settled g l.at.base l.r l.initial.w l.fn.before.seeds l.fn.before.gone l.w l.count.seeds l.count.gone (Seen g l.u l.initial.w l.i))

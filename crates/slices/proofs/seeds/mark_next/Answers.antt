@@ -1,64 +1,22 @@
 use native.Mathlib.Omega.{arith}
-use Prim.Native.Nat.{◌+◌}
-use mathlib.Core.Path.{refl}
-use Rattle.graph.specs.Arrows.{on}
-use Rattle.slices.proofs.Walking.{Turn, next_none, next_turn, next_ask, next_step, next_all}
-use borrow.Author.Rules.{rules}
+use Rattle.slices.proofs.Walking.{next_none, next_turn, next_ask, next_step, next_all}
 use Rattle.slices.proofs.seeds.mark_next.Goals as goal
 
-pub overflow_cast-i : goal.overflow_cast-i
-overflow_cast-i c = omega (arith, c.slice_known-2-1.given c.args.v)
-
-pub overflow_cast-t : goal.overflow_cast-t
-overflow_cast-t c = omega (arith, c.slice_known-3-1.given (c.args.v + 1))
-
 pub loop-i-init : goal.loop-i-init
-loop-i-init c = (refl, λ g a. next_none a)
+loop-i-init c = let (x, a) = c.requires in ((x, (a, next_none a)), λ g a. next_none a)
 
-pub overflow_add-y : goal.overflow_add-y
-overflow_add-y c =
-    let reads : Turn (on c.args.n c.requires.0) c.loop-i.i c.loop-i.w = let s = c.requires in next_turn s.1 (c.loop-i.invariant.1 s.0 s.1) c.loop-i-test.true in
-    omega (arith, reads)
-
-pub overflow_add-y-in-loop-i : goal.overflow_add-y-in-loop-i
-overflow_add-y-in-loop-i c =
-    let reads : Turn (on c.args.n c.requires.0) c.loop-i.i c.loop-i.w = let s = c.requires in next_turn s.1 (c.loop-i.invariant.1 s.0 s.1) c.loop-i-test.true in
-    omega (arith, reads)
-
-pub offset_bounds-w-n : goal.offset_bounds-w-n
-offset_bounds-w-n c =
-    let reads : Turn (on c.args.n c.requires.0) c.loop-i.i c.loop-i.w = let s = c.requires in next_turn s.1 (c.loop-i.invariant.1 s.0 s.1) c.loop-i-test.true in
-    omega (arith, reads)
-
-pub bounds-w-n : goal.bounds-w-n
-bounds-w-n c =
-    let reads : Turn (on c.args.n c.requires.0) c.loop-i.i c.loop-i.w = let s = c.requires in next_turn s.1 (c.loop-i.invariant.1 s.0 s.1) c.loop-i-test.true in
-    omega (arith, reads)
-
-pub overflow_cast-y : goal.overflow_cast-y
-overflow_cast-y c =
-    let reads : Turn (on c.args.n c.requires.0) c.loop-i.i c.loop-i.w = let s = c.requires in next_turn s.1 (c.loop-i.invariant.1 s.0 s.1) c.loop-i-test.true in
-    omega (arith, reads)
+pub bounds-w-at : goal.bounds-w-at
+bounds-w-at c = let ((x, (a, z)), f) = c.loop-i.invariant in omega (arith, next_turn a z c.loop-i-test.true)
 
 pub mark-e-requires : goal.mark-e-requires
-mark-e-requires c = next_ask c.requires.1 (c.loop-i.invariant.1 c.requires.0 c.requires.1) c.loop-i-test.true
-
-pub overflow_add-i : goal.overflow_add-i
-overflow_add-i c =
-    let reads : Turn (on c.args.n c.requires.0) c.loop-i.i c.loop-i.w = let s = c.requires in next_turn s.1 (c.loop-i.invariant.1 s.0 s.1) c.loop-i-test.true in
-    omega (arith, reads)
-
-pub loop-i-smaller : goal.loop-i-smaller
-loop-i-smaller c = omega (arith, c.loop-i-test.true)
+mark-e-requires c = let ((x, (a, z)), f) = c.loop-i.invariant in next_ask a z c.loop-i-test.true
 
 pub loop-i-preserved : goal.loop-i-preserved
 loop-i-preserved c =
-    let l = c.loop-i.invariant.1 in
+    let ((x, (a, z)), f) = c.loop-i.invariant in
     let t = c.loop-i-test.true in
-    (search rules, λ g a. next_step a (l g a) t c.mark-e.ensures)
-
-pub shape_of-w : goal.shape_of-w
-shape_of-w c = c.loop-i.invariant.0
+    let y = c.mark-e.ensures in
+    ((x, (a, next_step a z t y)), λ g a. next_step a (f g a) t y)
 
 pub returns : goal.returns
 returns c = λ g a. next_all a (c.loop-i.invariant.1 g a) c.loop-i-test.false

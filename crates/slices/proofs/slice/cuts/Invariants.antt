@@ -1,10 +1,12 @@
 use Prim.Native.Nat.{◌-◌}
-use Rattle.graph.specs.Arrows.{EveryOf}
+use Rattle.graph.specs.Arrows.{SomeOf, EveryOf}
 use Rattle.slices.specs.Slice.{CutsAsk, Cuts}
 use Rattle.slices.proofs.slice.cuts.Given as goal
 
-abbrev pub invariant-loop-l : goal.invariant-loop-l
-invariant-loop-l l = EveryOf l.n l.m (λ g. CutsAsk g l.b l.r l.top l.initial.w → Cuts g l.b l.r l.top l.initial.w l.l l.e l.s l.w)
+abbrev pub invariant-loop-places : goal.invariant-loop-places
+invariant-loop-places l =
+    SomeOf l.at.n l.at.m (λ g. CutsAsk g l.at.base l.r l.top l.initial.w × Cuts g l.at.base l.r l.top l.initial.w l.places.from l.places.to l.s l.w)
+    × EveryOf l.at.n l.at.m (λ g. CutsAsk g l.at.base l.r l.top l.initial.w → Cuts g l.at.base l.r l.top l.initial.w l.places.from l.places.to l.s l.w)
 
-abbrev pub decreases-loop-l : goal.decreases-loop-l
-decreases-loop-l l = l.n - l.l
+abbrev pub decreases-loop-places : goal.decreases-loop-places
+decreases-loop-places l = l.at.n - l.places.from

@@ -4,19 +4,23 @@ use Rattle.slices.proofs.Slicing.{slice_start, slice_mark, slice_cuts, slice_don
 use Rattle.slices.proofs.slice.slice.Goals as goal
 
 pub search-requires : goal.search-requires
-search-requires c = (sized c.args.m c.requires.0, slice_start c.requires.1 refl)
+search-requires c = rw (c.forward.ensures, c.change.ensures) (sized c.args.at.m c.requires.0, slice_start c.requires.1 refl)
 
 pub mark-requires : goal.mark-requires
-mark-requires c = slice_mark c.requires.1 refl (c.search.ensures (sized c.args.m c.requires.0) (slice_start c.requires.1 refl))
+mark-requires c =
+    let y = rw (c.forward.ensures, c.change.ensures) at c.search.ensures in
+    slice_mark c.requires.1 refl (y (sized c.args.at.m c.requires.0) (slice_start c.requires.1 refl))
 
 pub cuts-requires : goal.cuts-requires
 cuts-requires c =
-    let f = c.search.ensures (sized c.args.m c.requires.0) (slice_start c.requires.1 refl) in
+    let y = rw (c.forward.ensures, c.change.ensures) at c.search.ensures in
+    let f = y (sized c.args.at.m c.requires.0) (slice_start c.requires.1 refl) in
     (c.requires.0, slice_cuts c.requires.1 refl f c.mark.ensures)
 
 pub returns : goal.returns
 returns c =
+    let y = rw (c.forward.ensures, c.change.ensures) at c.search.ensures in
     let k = c.mark.ensures in
     λ g a.
-    let f = c.search.ensures (sized c.args.m g) (slice_start a refl) in
+    let f = y (sized c.args.at.m g) (slice_start a refl) in
     slice_done a refl f k (c.cuts.ensures g (slice_cuts a refl f k))

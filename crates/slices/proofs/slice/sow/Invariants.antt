@@ -1,8 +1,5 @@
-use mathlib.Core.Path.{◌≡◌}
-use Prim.Native.Nat.{◌≤◌, ◌-◌}
-use lib.ListN.{length}
 use Rattle.graph.specs.Graph.{rev}
-use Rattle.graph.specs.Arrows.{Every}
+use Rattle.graph.specs.Arrows.{Some, Every}
 use Rattle.paint.specs.Colours.{paint}
 use Rattle.paint.specs.Paint.{Begun}
 use Rattle.slices.specs.Seeds.{Listed}
@@ -10,7 +7,6 @@ use Rattle.slices.specs.Slice.{CutAsk}
 use Rattle.slices.proofs.slice.sow.Given as goal
 
 abbrev pub invariant-loop-i : goal.invariant-loop-i
-invariant-loop-i l = (l.l ≤ l.i) × (l.i ≤ l.e) × (length l.w ≡ length l.initial.w) × Every l.n (λ g. CutAsk g l.b l.r l.s l.l l.e l.initial.w → Begun (rev g) (paint l.r l.s l.r l.s) l.b (Listed l.n l.b l.initial.w l.l l.i) l.initial.w l.w l.k)
-
-abbrev pub decreases-loop-i : goal.decreases-loop-i
-decreases-loop-i l = l.e - l.i
+invariant-loop-i l =
+    Some l.fn.at.n (λ g. CutAsk g l.fn.at.base l.r l.s l.fn.places.from l.fn.places.to l.initial.w × Begun (rev g) (paint l.r l.s l.r l.s) l.fn.at.base (Listed l.fn.at.n l.fn.at.base l.initial.w l.fn.places.from l.i) l.initial.w l.w l.k)
+    × Every l.fn.at.n (λ g. CutAsk g l.fn.at.base l.r l.s l.fn.places.from l.fn.places.to l.initial.w → Begun (rev g) (paint l.r l.s l.r l.s) l.fn.at.base (Listed l.fn.at.n l.fn.at.base l.initial.w l.fn.places.from l.i) l.initial.w l.w l.k)

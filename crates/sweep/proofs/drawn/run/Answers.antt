@@ -3,31 +3,31 @@ use mathlib.Core.Path.{sym, ◌∙◌}
 use Rattle.sweep.proofs.Drawing.{drawing_none, drawing_so_far, drawing_few, drawing_ask, drawing_step, drawing_less, drawing_all}
 use Rattle.sweep.proofs.drawn.run.Goals as goal
 
-pub loop-left-init : goal.loop-left-init
-loop-left-init c = λ e a. drawing_none a
+pub loop-now-init : goal.loop-now-init
+loop-now-init c = λ e a. drawing_none a
 
-pub turn-t-requires : goal.turn-t-requires
-turn-t-requires c = (c.requires.0, drawing_ask c.requires.1 (c.loop-left.invariant c.requires.0 c.requires.1) c.loop-left-test.true)
+pub turn-now-requires : goal.turn-now-requires
+turn-now-requires c = (c.requires.0, drawing_ask c.requires.1 (c.loop-now.invariant c.requires.0 c.requires.1) c.loop-now-test.true)
 
 pub overflow_add-draws : goal.overflow_add-draws
-overflow_add-draws c = omega (arith, drawing_few c.requires.1 (c.loop-left.invariant c.requires.0 c.requires.1), c.requires.1.ready.stage.tables.small)
+overflow_add-draws c = omega (arith, drawing_few c.requires.1 (c.loop-now.invariant c.requires.0 c.requires.1), c.requires.1.ready.stage.tables.small)
 
-pub loop-left-smaller : goal.loop-left-smaller
-loop-left-smaller c =
-    let z = c.loop-left.invariant c.requires.0 c.requires.1 in
-    drawing_less c.requires.1 z (c.turn-t.ensures c.requires.0 (drawing_ask c.requires.1 z c.loop-left-test.true))
+pub loop-now-smaller : goal.loop-now-smaller
+loop-now-smaller c =
+    let z = c.loop-now.invariant c.requires.0 c.requires.1 in
+    drawing_less c.requires.1 z (c.turn-now.ensures c.requires.0 (drawing_ask c.requires.1 z c.loop-now-test.true))
 
-pub loop-left-preserved : goal.loop-left-preserved
-loop-left-preserved c =
-    let l = c.loop-left in
-    let t = c.loop-left-test.true in
-    λ e a. drawing_step a (l.invariant e a) (c.turn-t.ensures e (drawing_ask a (l.invariant e a) t))
+pub loop-now-preserved : goal.loop-now-preserved
+loop-now-preserved c =
+    let l = c.loop-now in
+    let t = c.loop-now-test.true in
+    λ e a. drawing_step a (l.invariant e a) (c.turn-now.ensures e (drawing_ask a (l.invariant e a) t))
 
 pub shape_of-w : goal.shape_of-w
-shape_of-w c = (drawing_so_far c.requires.1 (c.loop-left.invariant c.requires.0 c.requires.1)).inside.long
+shape_of-w c = (drawing_so_far c.requires.1 (c.loop-now.invariant c.requires.0 c.requires.1)).inside.long
 
 pub shape_of-words : goal.shape_of-words
-shape_of-words c = (c.loop-left.invariant c.requires.0 c.requires.1).marks.words ∙ sym c.requires.1.marks.words
+shape_of-words c = (c.loop-now.invariant c.requires.0 c.requires.1).marks.words ∙ sym c.requires.1.marks.words
 
 pub returns : goal.returns
-returns c = λ e a. drawing_all a (c.loop-left.invariant e a) (λ h. absurd (omega (arith, h, c.loop-left-test.false)))
+returns c = λ e a. drawing_all a (c.loop-now.invariant e a) (λ h. absurd (omega (arith, h, c.loop-now-test.false)))

@@ -1,25 +1,20 @@
-use native.Mathlib.Omega.{arith}
-use mathlib.Core.Path.{◌≡◌}
-use Prim.Native.Nat.{◌+◌}
-use Rattle.sweep.proofs.Marking.{erase_none, strike_ask, erase_step}
+use Rattle.std.proofs.Common.{ℕ, ◌≡◌, ◌+◌, ◌-◌, ◌<◌, List, get_or, take, drop, ◌∙◌, arith}
+use lib.Seq.{get_or-take, get_or-drop}
+use Rattle.sweep.proofs.Marking.{strike_ask, erase_step}
 use Rattle.sweep.proofs.set.erase.Goals as goal
 
-pub loop-i-init : goal.loop-i-init
-loop-i-init c = (omega arith, erase_none c.requires)
-
-pub overflow_cast-v : goal.overflow_cast-v
-overflow_cast-v c = omega (arith, c.shared_slice_known-in-loop-i-1.given (c.args.b + c.args.n + c.loop-i.i))
+-- what stands at place i of the k that begin at a
+at_place : (w : List ℕ) (a k i : ℕ) → i < k → get_or (take (a + k - a) (drop a w)) i 0 ≡ get_or w (a + i) 0
+at_place w a k i h = get_or-take (a + k - a) (drop a w) i 0 (omega arith) ∙ get_or-drop a w i 0
 
 pub strike-left-requires : goal.strike-left-requires
-strike-left-requires c = strike_ask c.requires c.loop-i-test.true c.loop-i.invariant.1
+strike-left-requires c =
+    let l : c.loop-v.v-index < c.args.k = omega arith in
+    let e = at_place c.args.w.now (c.args.along.base + c.args.along.n) c.args.k c.loop-v.v-index l in
+    rw e (strike_ask c.requires l c.loop-v.invariant)
 
-pub loop-i-preserved : goal.loop-i-preserved
-loop-i-preserved c =
-    let t = c.loop-i-test.true in
-    (omega arith, erase_step c.requires t c.loop-i.invariant.1 c.strike-left.ensures)
-
-pub shape_of-words : goal.shape_of-words
-shape_of-words c = c.loop-i.invariant.1.long
-
-pub returns : goal.returns
-returns c = let e : c.loop-i.i ≡ c.args.k = omega arith in rw e at c.loop-i.invariant.1
+pub loop-v-preserved : goal.loop-v-preserved
+loop-v-preserved c =
+    let l : c.loop-v.v-index < c.args.k = omega arith in
+    let e = at_place c.args.w.now (c.args.along.base + c.args.along.n) c.args.k c.loop-v.v-index l in
+    erase_step c.requires l c.loop-v.invariant (rw e at c.strike-left.ensures)
