@@ -8,9 +8,8 @@ use mathlib.Core.Logic.{◌⊎◌, inl, inr}
 use mathlib.Core.List.{List, []}
 use lib.ListN.{length, get_or, replicate}
 use lib.Dec.{T, eqb, ltb, leb, eqb→eq, leb→le}
-use Rattle.graph.specs.Graph.{Graph, Valid, IsLabel, edges, table}
+use Rattle.graph.specs.Graph.{Graph, Valid, IsLabel, edges}
 use Rattle.graph.specs.Numbers.{many}
-use Rattle.memory.specs.Memory.{ClearAsk}
 use Rattle.graph.specs.Pivot.{draws, list_of}
 use Rattle.graph.specs.Apart.{Course, whole, TakenApart}
 use Rattle.graph.specs.Summary.{sharing, summary}
@@ -24,8 +23,6 @@ use Rattle.waiting.specs.declared.Part.{Part}
 use Rattle.waiting.specs.Records.{none}
 use Rattle.std.specs.declared.option.Option.TheVariants.{None}
 use Rattle.graph.specs.Arrows.{SomeOf, EveryOf, arrows}
-use Rattle.graph.specs.Limits.{InLimits}
-use Rattle.graph.specs.Refusal.{table_refusal}
 use Rattle.memory.specs.declared.layout.Layout.{Layout}
 use Rattle.graph.specs.Reasons.{number_of}
 use Rattle.graph.proofs.Reasons.{number_some}

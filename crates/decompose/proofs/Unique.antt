@@ -15,7 +15,6 @@ use Rattle.pivot.specs.declared.chooser.Chooser.{Chooser}
 use Rattle.pivot.proofs.Unique.{chooser_one}
 use Rattle.std.proofs.Common.{Result, Ok, Err}
 use Rattle.graph.specs.declared.refusal.Refusal.{Refusal}
-use Rattle.graph.specs.Reasons.{number_of}
 use Rattle.graph.proofs.Reasons.{number_one}
 use Rattle.decompose.specs.Promise.{Call, After, after, Emptied, Finished, Untouched, PromiseOn}
 use Rattle.decompose.specs.Plain.{Plainly}

@@ -1,0 +1,4 @@
+use Rattle.decompose.proofs.finish.finish.Goals as goal
+
+pub returns : goal.returns
+returns c = record { copied = c.copy.ensures; cleared = c.clear.ensures }
