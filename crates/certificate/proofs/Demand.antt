@@ -12,6 +12,8 @@ use Rattle.graph.proofs.Tests.{length_each}
 use Rattle.graph.proofs.Refusals.{or_none}
 use Rattle.checker.specs.Promise.{checker_refusal, number, outcome}
 use Rattle.checker.specs.Promise as checker
+use Rattle.std.specs.Prelude.{Result, Ok}
+use Rattle.graph.specs.declared.refusal.Refusal.{Refusal}
 use Rattle.checker.specs.declared.Verdict.{Verdict}
 use Rattle.checker.specs.declared.Verdict.TheVariants.{Accepted}
 use Rattle.checker.proofs.Laws.{ready_call}
@@ -22,10 +24,10 @@ use Rattle.certificate.proofs.Writing.{early_ready, right_none, other_ten}
 -- for every outcome of the checker and of the writer that meets its promise
 pub record Demand3 : Type 0 where
   -- the checker accepts six columns only if the label column is the right one
-  pub accepts : (c : checker.Call) → checker.Promise c Accepted → c.given_columns.label ≡ labels (checker.collection c)
+  pub accepts : (c : checker.Call) → checker.Promise c (Ok Accepted) → c.given_columns.label ≡ labels (checker.collection c)
   -- the writer, given that column, writes columns the checker accepts
   pub writes : (c : Call) (r : ℕ) (after : Lent) → Promise c r after → early_refusal c ≡ 0 → c.label ≡ labels (collection c)
-      → (r ≡ 0) × ((answer : Verdict) → checker.Promise (checked c after) answer → (number (outcome answer) ≡ 0) × (answer ≡ Accepted))
+      → (r ≡ 0) × ((answer : Result Verdict Refusal) → checker.Promise (checked c after) answer → (number (outcome answer) ≡ 0) × (answer ≡ Ok Accepted))
   -- and given any other, refuses
   pub refuses : (c : Call) (r : ℕ) (after : Lent) → Promise c r after → early_refusal c ≡ 0 → (c.label ≡ labels (collection c) → ⊥) → r ≡ wrong_labels
 
@@ -52,7 +54,7 @@ module _ (c : Call) (r : ℕ) (after : Lent) (p : Promise c r after) (fine : ear
   not_refused =
       ready_call (checked c after) (or_none _ _ (or_none _ _ fine).0).0 (rw (p.written done).0 (certificate_sized (collection c) c.label (early_ready c fine).sized.label))
 
-  judged : (answer : Verdict) → checker.Promise (checked c after) answer → (number (outcome answer) ≡ 0) × (answer ≡ Accepted)
+  judged : (answer : Result Verdict Refusal) → checker.Promise (checked c after) answer → (number (outcome answer) ≡ 0) × (answer ≡ Ok Accepted)
   judged a q = (
     check_number (checked c after) a q ∙ not_refused,
     certificate_accepted (checked c after) a not_refused ((p.written done).0 ∙ ap (certificate (collection c)) right) q,

@@ -5,9 +5,11 @@ use mathlib.Core.Path.{◌≡◌, refl, sym, subst, ◌∙◌}
 use mathlib.Core.Logic.{inl, inr, ⊎_elim}
 use mathlib.Core.Bool.{Bool, true, false, cond, not}
 use mathlib.Core.List.{List}
-use lib.ListN.{get_or}
+use lib.ListN.{length, get_or}
 use lib.Dec.{eqb}
-use Rattle.graph.specs.Graph.{Graph, table, Valid, Chain, rev, edges}
+use Rattle.graph.specs.Table.{graph_of, turned_of}
+use Rattle.graph.specs.declared.table.Table.{Table}
+use Rattle.graph.specs.Graph.{Graph, Valid, Chain, rev, edges}
 use Rattle.graph.specs.Arrows.{Some, Every, arrows, back}
 use Rattle.graph.specs.Limits.{most_edges}
 use Rattle.graph.specs.Checker.{at, no_edge, entry}
@@ -126,26 +128,25 @@ module _ {g : Graph} {kinds lab : List ℕ} {b : ℕ} {w : List ℕ} (a : FindAs
 pub enter_ask : {g : Graph} {kinds lab : List ℕ} {b : ℕ} {w : List ℕ} → CompleteAsk g kinds lab b w → EntriesAsk g kinds lab b (in_edges g.n b) w
 enter_ask a = record { valid = a.valid; kinded = a.kinded; size = a.size; few = a.few; apart = omega arith; room = omega (arith, a.room) }
 
-module _ {n : ℕ} {sources targets kinds : List ℕ} (mask : ℕ) {lab : List ℕ} {b : ℕ} {w w₁ : List ℕ}
-    (a : CompleteAsk (table n sources targets kinds mask) kinds lab b w) (x : Entered (table n sources targets kinds mask) lab b (in_edges n b) w w₁) where
-  -- the entries of the exchanged columns are those of the table turned
-  turned : table n targets sources kinds mask ≡ rev (table n sources targets kinds mask)
-  turned = table_turned n sources targets kinds mask a.valid.same
+module _ (t : Table) {u : Table} {lab : List ℕ} {b : ℕ} {w w₁ : List ℕ} (a : CompleteAsk (graph_of t) t.kinds.now lab b w) (x : Entered (graph_of t) lab b (in_edges t.n b) w w₁) (back : u ≡ turned_of t) where
+  -- the entries of the turned table are those of the collection turned
+  turned : graph_of (turned_of t) ≡ rev (graph_of t)
+  turned = table_turned t.n t.sources.now t.targets.now t.kinds.now t.mask a.valid.same
 
-  leaving : EntriesAsk (rev (table n sources targets kinds mask)) kinds lab (b + n) (out_edges n b) w₁
+  leaving : EntriesAsk (rev (graph_of t)) t.kinds.now lab (b + t.n) (out_edges t.n b) w₁
   leaving = record { valid = valid_rev a.valid; kinded = a.kinded; size = a.size; few = a.few; apart = omega arith; room = omega (arith, a.room, x.framed.long) }
 
-  pub leave_ask : EntriesAsk (table n targets sources kinds mask) kinds lab (b + n) (out_edges n b) w₁
-  leave_ask = subst (λ (g : Graph). EntriesAsk g kinds lab (b + n) (out_edges n b) w₁) (sym turned) leaving
+  pub leave_ask : EntriesAsk (graph_of u) u.kinds.now lab (b + t.n) (out_edges t.n b) w₁
+  leave_ask = rw back (subst (λ (g : Graph). EntriesAsk g t.kinds.now lab (b + t.n) (out_edges t.n b) w₁) (sym turned) leaving)
 
-  module _ {w₂ : List ℕ} (left : Entered (table n targets sources kinds mask) lab (b + n) (out_edges n b) w₁ w₂) where
-    y : Entered (rev (table n sources targets kinds mask)) lab (b + n) (out_edges n b) w₁ w₂
-    y = subst (λ (g : Graph). Entered g lab (b + n) (out_edges n b) w₁ w₂) turned left
+  module _ {w₂ : List ℕ} (left : Entered (graph_of u) lab (b + t.n) (out_edges t.n b) w₁ w₂) where
+    y : Entered (rev (graph_of t)) lab (b + t.n) (out_edges t.n b) w₁ w₂
+    y = subst (λ (g : Graph). Entered g lab (b + t.n) (out_edges t.n b) w₁ w₂) turned (rw back at left)
 
-    front_two : (j : ℕ) → j < in_edges n b → get_or w₂ j 0 ≡ get_or w j 0
+    front_two : (j : ℕ) → j < in_edges t.n b → get_or w₂ j 0 ≡ get_or w j 0
     front_two j l = y.framed.low j (omega arith) ∙ x.framed.low j l
 
-    pub ranks_ask : RanksAsk (table n sources targets kinds mask) kinds lab b w₂
+    pub ranks_ask : RanksAsk (graph_of t) t.kinds.now lab b w₂
     ranks_ask =
         record {
           ground =
@@ -158,11 +159,11 @@ module _ {n : ℕ} {sources targets kinds : List ℕ} (mask : ℕ) {lab : List �
                 fits = omega (arith, a.room, x.framed.long, y.framed.long);
               };
           kinded = a.kinded;
-          index = held_kept (table n sources targets kinds mask) 0 w w₂ (λ j l m. front_two j (omega (arith, a.below))) a.index;
+          index = held_kept (graph_of t) 0 w w₂ (λ j l m. front_two j (omega (arith, a.below))) a.index;
           below = a.below;
         }
 
-    pub complete_end : {w₃ : List ℕ} {r : Bool} → Ranked (table n sources targets kinds mask) lab b w₂ w₃ r → Completed (table n sources targets kinds mask) lab b w w₃ r
+    pub complete_end : {w₃ : List ℕ} {r : Bool} → Ranked (graph_of t) lab b w₂ w₃ r → Completed (graph_of t) lab b w w₃ r
     complete_end {w₃} z =
         record {
           beyond =
@@ -171,19 +172,19 @@ module _ {n : ℕ} {sources targets kinds : List ℕ} (mask : ℕ) {lab : List �
                 rest = λ j l. z.high j (omega arith) ∙ y.framed.high j (omega arith) ∙ x.framed.high j (omega arith);
               };
           kept = λ j l m. z.low j (omega (arith, a.below)) m ∙ front_two j (omega arith);
-          enters = λ v l. rw (in_now v l) (x.entries (region (in_distances n b) w) (λ u m. refl) v l);
-          leaves = λ v l. rw (out_now v l) (y.entries (region (out_distances n b) w) (λ u m. x.framed.low (b + n + u) (omega arith)) v l);
-          either = z.either (region (in_edges n b) w₃) (λ v l. sym (in_kept v l));
+          enters = λ v l. rw (in_now v l) (x.entries (region (in_distances t.n b) w) (λ u m. refl) v l);
+          leaves = λ v l. rw (out_now v l) (y.entries (region (out_distances t.n b) w) (λ u m. x.framed.low (b + t.n + u) (omega arith)) v l);
+          either = z.either (region (in_edges t.n b) w₃) (λ v l. sym (in_kept v l));
         }
       where
-        in_kept : (v : ℕ) → v < n → region (in_edges n b) w₃ v ≡ region (in_edges n b) w₂ v
-        in_kept v l = z.mid (in_edges n b + v) (omega arith) (omega arith)
+        in_kept : (v : ℕ) → v < t.n → region (in_edges t.n b) w₃ v ≡ region (in_edges t.n b) w₂ v
+        in_kept v l = z.mid (in_edges t.n b + v) (omega arith) (omega arith)
 
-        in_now : (v : ℕ) → v < n → region (in_edges n b) w₃ v ≡ region (in_edges n b) w₁ v
-        in_now v l = in_kept v l ∙ y.framed.low (in_edges n b + v) (omega arith)
+        in_now : (v : ℕ) → v < t.n → region (in_edges t.n b) w₃ v ≡ region (in_edges t.n b) w₁ v
+        in_now v l = in_kept v l ∙ y.framed.low (in_edges t.n b + v) (omega arith)
 
-        out_now : (v : ℕ) → v < n → region (out_edges n b) w₃ v ≡ region (out_edges n b) w₂ v
-        out_now v l = z.mid (out_edges n b + v) (omega arith) (omega arith)
+        out_now : (v : ℕ) → v < t.n → region (out_edges t.n b) w₃ v ≡ region (out_edges t.n b) w₂ v
+        out_now v l = z.mid (out_edges t.n b + v) (omega arith) (omega arith)
 
 -- right labels: the distances and the entries of one direction are those of the certificate
 module _ {g : Graph} (ok : Valid g) {lab : List ℕ} (right : Right g lab) {d : ℕ → ℕ} (near : Distances g lab d) where
@@ -238,7 +239,10 @@ module _ {g : Graph} {lab : List ℕ} {b : ℕ} {w w' : List ℕ} (ok : Valid g)
   pub never_stuck : Stuck g lab (region (in_edges g.n b) w') (region (counts_at g.n b) w') → Right g lab → ⊥
   never_stuck s right = none_stays ok lab own d (region (in_edges g.n b) w') x.there y.enters few right (region (counts_at g.n b) w') s
 
-module _ {g : Graph} {kinds lab w : List ℕ} (a : WorkAsk g kinds lab w) {r : Bool} (o : Owned g.n lab r) where
+module _ {g : Graph} {kinds lab w : List ℕ} (a : WorkAsk g kinds lab w) {r : Bool} (told : Owned (length lab) lab r) where
+  o : Owned g.n lab r
+  o = subst (λ (n : ℕ). Owned n lab r) a.size told
+
   pub work_none : not r ≡ true → Worked g lab (base g) w w false
   work_none q = record { beyond = record { long = refl; rest = λ j l. refl }; either = inr (refl, λ right. unless o q (right_own a.valid lab right)) }
 

@@ -8,6 +8,8 @@ use Rattle.graph.specs.Refusal.{given, ◌or◌, table_refusal, lacking}
 use Rattle.graph.specs.Checker.{Columns, at}
 use Rattle.graph.specs.Certificate.{certificate}
 use Rattle.memory.specs.Memory.{Cleared}
+use Rattle.graph.specs.declared.table.Table.{Table}
+use Rattle.checker.specs.declared.Columns.{Columns as LentColumns}
 use Rattle.checker.specs.Promise as checker
 
 -- what is lent to be written
@@ -37,6 +39,14 @@ pub record Call : Type 0 where
 abbrev pub call : (n : ℕ) (sources targets kinds : List ℕ) (mask : ℕ) (label : List ℕ) → Lent → Call
 call n sources targets kinds mask label lends =
     record { n = n; sources = sources; targets = targets; kinds = kinds; mask = mask; label = label; lends = lends }
+
+-- the call of a lent table
+abbrev pub call_of : Table → List ℕ → Lent → Call
+call_of t label lends = call t.n t.sources.now t.targets.now t.kinds.now t.mask label lends
+
+-- what is lent, where the five columns stand beside the labels
+abbrev pub lends : LentColumns → List ℕ → List ℕ → Lent
+lends c numbers words = lent c.rank.now c.in_edge.now c.in_distance.now c.out_edge.now c.out_distance.now numbers words
 
 -- the call's table: edges of a kind in the mask count
 abbrev pub collection : Call → Graph

@@ -1,52 +1,29 @@
 // The certificate writer: it reads the labels and fills the other five columns.
 #![tactic(auto)]
 
-ghost use Rattle.std.specs.Prelude.{◌≡◌, ℕ, ◌+◌, ◌*◌};
+ghost use Rattle.std.specs.Prelude.{◌≡◌, ◌+◌, ◌*◌};
+ghost use Rattle.graph.specs.Reasons.{said};
 ghost use Rattle.certificate.specs.Work.{HandAsk, Handed};
-ghost use Rattle.certificate.specs.Promise.{lent, call, early_refusal, Promise};
+ghost use Rattle.certificate.specs.Promise.{lent, call_of, lends, early_refusal, Promise};
 
+use checker::Columns;
 use graph::limits;
+use graph::refusal::Refusal;
+use graph::table::Table;
 use memory::writer::{IN_EDGES, OUT_EDGES, RANKS};
 
 mod entries;
 mod work;
 
-// The first of 1, 2, 21, 3, 4, 22, 5, 6 that applies, else 0, whatever the mask.
-fn refusal(
-    n: usize,
-    sources: &[u32],
-    targets: &[u32],
-    kinds: &[u8],
-    label: &[u32],
-    rank: &[u32],
-    in_edge: &[u32],
-    in_distance: &[u32],
-    out_edge: &[u32],
-    out_distance: &[u32],
-    numbers: &[u32],
-    words: &[u64],
-) -> u32
-    ensures { (mask : ℕ) → result ≡ early_refusal (call n sources.now targets.now kinds.now mask label.now (lent rank.now in_edge.now in_distance.now out_edge.now out_distance.now numbers.now words.now)) }
+// The first of 1, 2, 21, 3, 4, 22, 5, 6 that applies, whatever the mask.
+fn refusal(table: &Table, columns: &Columns, numbers: &[u32], words: &[u64]) -> Result<(), Refusal>
+    ensures { said result ≡ early_refusal (call_of table.now columns.now.label.now (lends columns.now numbers.now words.now)) }
 {
-    let k = checker::refusal(
-        n,
-        sources,
-        targets,
-        kinds,
-        label,
-        rank,
-        in_edge,
-        in_distance,
-        out_edge,
-        out_distance,
-    );
-    if k != 0 {
-        return k;
+    checker::refusal(table, columns)?;
+    if limits::lacking(table.n, table.sources.len(), numbers.len(), words.len()) {
+        return Err(Refusal::MemoryShort);
     }
-    if limits::lacking(n, sources.len(), numbers.len(), words.len()) {
-        return limits::MEMORY_SHORT;
-    }
-    0
+    Ok(())
 }
 
 // The five columns become what stands in their regions.
@@ -71,13 +48,9 @@ fn hand(
     memory::copy(numbers, b + n, out_distance);
 }
 
-// Five columns from the labels: shortest distances from and to the label, the smallest counted edges that fit them, the ranks. The number returned.
+// Five columns from the labels: shortest distances from and to the label, the smallest counted edges that fit them, the ranks.
 pub fn write(
-    n: usize,
-    sources: &[u32],
-    targets: &[u32],
-    kinds: &[u8],
-    mask: u8,
+    table: &Table,
     label: &[u32],
     rank: &mut [u32],
     in_edge: &mut [u32],
@@ -86,30 +59,23 @@ pub fn write(
     out_distance: &mut [u32],
     numbers: &mut [u32],
     words: &mut [u64],
-) -> u32
-    ensures { Promise (call n sources.now targets.now kinds.now mask label.now (lent rank.old in_edge.old in_distance.old out_edge.old out_distance.old numbers.old words.old)) result (lent rank.new in_edge.new in_distance.new out_edge.new out_distance.new numbers.new words.new) }
+) -> Result<(), Refusal>
+    ensures { Promise (call_of table.now label.now (lent rank.old in_edge.old in_distance.old out_edge.old out_distance.old numbers.old words.old)) (said result) (lent rank.new in_edge.new in_distance.new out_edge.new out_distance.new numbers.new words.new) }
 {
-    let k = refusal(
-        n,
-        sources,
-        targets,
-        kinds,
+    let columns = Columns {
         label,
         rank,
         in_edge,
         in_distance,
         out_edge,
         out_distance,
-        numbers,
-        words,
-    );
-    if k != 0 {
-        return k;
-    }
-    let m = sources.len();
-    if !work::work(n, sources, targets, kinds, mask, label, numbers) {
+    };
+    refusal(table, &columns, numbers, words)?;
+    let n = table.n;
+    let m = table.sources.len();
+    if !work::work(table, label, numbers) {
         memory::clear(n, m, numbers, words);
-        return limits::WRONG_LABELS;
+        return Err(Refusal::WrongLabels);
     }
     hand(
         n,
@@ -122,5 +88,5 @@ pub fn write(
         out_distance,
     );
     memory::clear(n, m, numbers, words);
-    0
+    Ok(())
 }

@@ -1,22 +1,12 @@
 -- Numbers found word by word are the numbers of the line.
-use Prim.Native.Nat.{ℕ, ◌+◌, ◌-◌, ◌≤◌, ◌<◌}
-use native.Mathlib.Omega.{arith}
-use mathlib.Core.Path.{◌≡◌, refl, sym, ◌∙◌, ap}
-use mathlib.Core.List.{List, [], ◌∷◌, ◌++◌, append-nil, append_assoc}
-use lib.ListN.{length, take, drop, length-append, drop_of_length-le, get_or-append}
-use lib.Seq.{drop-cons}
-use borrow.Author.Tests.{le-ltb, lt-ltb}
+use Rattle.std.proofs.Common.{ℕ, ◌+◌, ◌≤◌, ◌<◌, ◌≡◌, refl, sym, ◌∙◌, ap, eqb, true, false, List, [], ◌∷◌, ◌++◌, append-nil, append_assoc, length, get_or, set, length-append, drop_of_length-le, Option, Some, None, arith}
+use Rattle.std.proofs.Math.Seq.{drop-cons}
+use borrow.Author.Tests.{le-ltb, lt-ltb, eqb-true, eqb-false}
 use Rattle.lines.specs.declared.numbers.Found.{Found}
-use Rattle.lines.specs.declared.numbers.Row.{Row}
-use Rattle.lines.specs.declared.numbers.Row.TheVariants.{Numbers, Faulty}
-use Rattle.lines.specs.declared.numbers.Number.{Number}
-use Rattle.lines.specs.declared.numbers.Number.TheVariants.{Is, Faulty as NotOne}
-use Rattle.lines.specs.declared.pieces.Piece.{Piece}
-use Rattle.lines.specs.declared.pieces.Piece.TheVariants.{At, None}
-use Rattle.lines.specs.Pieces.{split, piece_at}
+use Rattle.lines.specs.Pieces.{split}
 use Rattle.lines.specs.Numbers.{Content, faulty, numbers, longest_line, space, number_of, filled, words, and_then, numbers_of, content}
-use Rattle.lines.specs.Answers.{found_of, shown, ahead, word_content}
-use Rattle.lines.proofs.Split.{piece_none, piece_known, piece_left}
+use Rattle.lines.specs.Answers.{found_of, shown}
+use Rattle.lines.proofs.Split.{split_few}
 
 -- numbers by how many there are
 module _ (vs : List ℕ) (f : Found) (held : f ≡ found_of vs) where
@@ -26,157 +16,110 @@ module _ (vs : List ℕ) (f : Found) (held : f ≡ found_of vs) where
   pub found_none : f.count ≡ 0 → vs ≡ []
   found_none h = drop_of_length-le vs {i = 0} (omega (arith, many))
 
-  pub found_one : f.count ≡ 1 → vs ≡ f.first ∷ []
-  found_one h = let m = many in rw held (drop-cons vs 0 0 (omega arith) ∙ rw (drop_of_length-le vs {i = 1} (omega arith)))
-
-  pub found_two : f.count ≡ 2 → vs ≡ f.first ∷ f.second ∷ []
+  pub found_two : f.count ≡ 2 → vs ≡ get_or f.numbers 0 0 ∷ get_or f.numbers 1 0 ∷ []
   found_two h = let m = many in rw held (drop-cons vs 0 0 (omega arith) ∙ rw (drop-cons vs 1 0 (omega arith), drop_of_length-le vs {i = 2} (omega arith)))
 
-  pub found_three : f.count ≡ 3 → vs ≡ f.first ∷ f.second ∷ f.third ∷ []
+  pub found_three : f.count ≡ 3 → vs ≡ get_or f.numbers 0 0 ∷ get_or f.numbers 1 0 ∷ get_or f.numbers 2 0 ∷ []
   found_three h = let m = many in rw held (drop-cons vs 0 0 (omega arith) ∙ rw (drop-cons vs 1 0 (omega arith), drop-cons vs 2 0 (omega arith), drop_of_length-le vs {i = 3} (omega arith)))
 
--- one more number found, by how many there are
-module _ (f : Found) (v : ℕ) (vs : List ℕ) (held : f ≡ found_of vs) where
-  pub add_first : f.count ≡ 0 → ◌≡◌ {A = Found} (record { count = 1; first = v; second = 0; third = 0 }) (found_of (vs ++ (v ∷ [])))
-  add_first h = rw (found_none vs f held h)
+-- one more number: among the first three, or past them
+module _ (f : Found) (v : ℕ) where
+  pub and_first : (vs : List ℕ) → f.count < 3 → f ≡ found_of vs → ◌≡◌ {A = Found} (record { count = f.count + 1; numbers = set f.numbers f.count v }) (found_of (vs ++ (v ∷ [])))
+  and_first [] h e = rw e
+  and_first (a ∷ []) h e = rw e
+  and_first (a ∷ b ∷ []) h e = rw e
+  and_first (a ∷ b ∷ c ∷ vs) h e = absurd (omega (arith, ap (λ (g : Found). g.count) e))
 
-  pub add_second : f.count ≡ 1 → ◌≡◌ {A = Found} (record { count = 2; first = f.first; second = v; third = 0 }) (found_of (vs ++ (v ∷ [])))
-  add_second h = rw (found_one vs f held h)
+  pub and_later : (vs : List ℕ) → 3 ≤ f.count → f ≡ found_of vs → ◌≡◌ {A = Found} (record { count = f.count + 1; numbers = f.numbers }) (found_of (vs ++ (v ∷ [])))
+  and_later [] h e = absurd (omega (arith, ap (λ (g : Found). g.count) e))
+  and_later (a ∷ []) h e = absurd (omega (arith, ap (λ (g : Found). g.count) e))
+  and_later (a ∷ b ∷ []) h e = absurd (omega (arith, ap (λ (g : Found). g.count) e))
+  and_later (a ∷ b ∷ c ∷ vs) h e = rw e (let f : ℕ → Found = λ n. record { count = n; numbers = a ∷ b ∷ c ∷ [] } in ap f (omega (arith, length-append vs (v ∷ []))))
 
-  pub add_third : f.count ≡ 2 → ◌≡◌ {A = Found} (record { count = 3; first = f.first; second = f.second; third = v }) (found_of (vs ++ (v ∷ [])))
-  add_third h = rw (found_two vs f held h)
-
-  pub add_later : (f.count ≡ 0 → ⊥) → (f.count ≡ 1 → ⊥) → (f.count ≡ 2 → ⊥) → ◌≡◌ {A = Found} (record { count = f.count + 1; first = f.first; second = f.second; third = f.third }) (found_of (vs ++ (v ∷ [])))
-  add_later a b c =
-      let l : 2 < length vs = omega (arith, many vs f held) in
-      rw (held, length-append vs (v ∷ []), get_or-append vs (v ∷ []) 0 0 (omega arith), get_or-append vs (v ∷ []) 0 1 (omega arith), get_or-append vs (v ∷ []) 0 2 l)
-
--- numbers found, and one word
-module _ (found : Found) (w : List ℕ) where
-  pub word_none : length w ≡ 0 → (vs : List ℕ) → found ≡ found_of vs → Numbers found ≡ shown (ahead vs (word_content w))
-  unfolding shown ahead filled numbers_of
-  word_none h vs e = rw (drop_of_length-le w {i = 0} (omega arith), append-nil vs, e)
-
-  module _ (some : length w ≡ 0 → ⊥) (x : Number) (told : x ≡ number_of w) where
-    word_one : word_content w ≡ and_then x (numbers [])
-    unfolding filled numbers_of
-    word_one = rw (told, drop-cons w 0 0 (omega arith))
-
-    pub word_faulty : x ≡ NotOne → (vs : List ℕ) → Faulty ≡ shown (ahead vs (word_content w))
-    unfolding shown ahead and_then
-    word_faulty e vs = rw (word_one, e)
-
-    pub word_number : (v : ℕ) → x ≡ Is v → (more : Found) → ((vs : List ℕ) → found ≡ found_of vs → more ≡ found_of (vs ++ (v ∷ [])))
-        → (vs : List ℕ) → found ≡ found_of vs → Numbers more ≡ shown (ahead vs (word_content w))
-    unfolding shown ahead and_then
-    word_number v e more added vs h = rw (word_one, e) (ap Numbers (added vs h))
-
-ahead_assoc : (vs us : List ℕ) (c : Content) → ahead vs (ahead us c) ≡ ahead (vs ++ us) c
-unfolding ahead
-ahead_assoc vs us faulty = refl
-ahead_assoc vs us (numbers ws) = ap numbers (sym (append_assoc vs us ws))
+-- numbers before those of what follows
+unfoldable pub ahead : List ℕ → Content → Content
+ahead vs faulty = faulty
+ahead vs (numbers ws) = numbers (vs ++ ws)
 
 ahead_none : (c : Content) → ahead [] c ≡ c
 unfolding ahead
 ahead_none faulty = refl
 ahead_none (numbers vs) = refl
 
-one_few : (x : Number) (us : List ℕ) → and_then x (numbers []) ≡ numbers us → length us ≤ 1
-unfolding and_then
-one_few NotOne us e = let z : ◌≡◌ {A = ℕ} 0 1 = cc in absurd (omega arith)
-one_few (Is v) us e = let u : v ∷ [] ≡ us = cc in rw (← u) (omega arith)
+ahead_then : (vs : List ℕ) (v : ℕ) (c : Content) → ahead vs (and_then (Some v) c) ≡ ahead (vs ++ (v ∷ [])) c
+unfolding ahead and_then
+ahead_then vs v faulty = refl
+ahead_then vs v (numbers ws) = ap numbers (sym (append_assoc vs (v ∷ []) ws))
 
-word_few : (w : List ℕ) (us : List ℕ) → word_content w ≡ numbers us → length us ≤ 1
-unfolding filled numbers_of
-word_few [] us e = let u : [] ≡ us = cc in rw (← u) (omega arith)
-word_few (b ∷ w) us e = one_few (number_of (b ∷ w)) us e
-
--- what a word holds, and then the words after it
-abbrev joined : Content → Content → Content
-joined faulty c = faulty
-joined (numbers us) c = ahead us c
-
-one_joined : (x : Number) (c : Content) → and_then x c ≡ joined (and_then x (numbers [])) c
-unfolding and_then ahead
-one_joined NotOne c = refl
-one_joined (Is v) faulty = refl
-one_joined (Is v) (numbers ws) = refl
-
-word_joined : (w : List ℕ) (ps : List (List ℕ)) → numbers_of (filled (w ∷ ps)) ≡ joined (word_content w) (numbers_of (filled ps))
-unfolding filled numbers_of
-word_joined [] ps = sym (ahead_none (numbers_of (filled ps)))
-word_joined (b ∷ w) ps = one_joined (number_of (b ∷ w)) (numbers_of (filled ps))
-
--- what an answer says of the word
-pub record Read (vs : List ℕ) (c : Content) (more : Found) : Type 0 where
-  pub us : List ℕ
-  pub is : c ≡ numbers us
-  pub held : more ≡ found_of (vs ++ us)
-
-shown_read : (vs : List ℕ) (c : Content) (more : Found) → shown (ahead vs c) ≡ Numbers more → Read vs c more
-unfolding shown ahead
-shown_read vs faulty more e = let z : ◌≡◌ {A = ℕ} 0 1 = cc in absurd (omega arith)
-shown_read vs (numbers us) more e = record { us = us; is = refl; held = cc }
-
-shown_faulty : (vs : List ℕ) (c : Content) → shown (ahead vs c) ≡ Faulty → c ≡ faulty
-unfolding shown ahead
-shown_faulty vs faulty e = refl
-shown_faulty vs (numbers us) e = let z : ◌≡◌ {A = ℕ} 0 1 = cc in absurd (omega arith)
-
--- the line is read up to `at`
-pub record Upto (line : List ℕ) (found : Found) (at : ℕ) : Type 0 where
+-- the line is read up to the words of `left`
+pub record Upto (line : List ℕ) (found : Found) (left : List (List ℕ)) : Type 0 where
   pub vs : List ℕ
   pub held : found ≡ found_of vs
-  pub few : length vs ≤ at
-  pub within : at ≤ length line
-  pub left : numbers_of (words line) ≡ ahead vs (numbers_of (filled (split space (drop at line))))
+  pub few : length vs + length left ≤ length line
+  pub rest : numbers_of (words line) ≡ ahead vs (numbers_of (filled left))
 
-pub upto_none : (line : List ℕ) → Upto line (found_of []) 0
+pub upto_none : (line : List ℕ) (left : List (List ℕ)) → left ≡ split space line → Upto line (found_of []) left
 unfolding words
-upto_none line = record { vs = []; held = refl; few = omega arith; within = omega arith; left = sym (ahead_none (numbers_of (filled (split space line)))) }
+upto_none line left e = rw e (record { vs = []; held = refl; few = omega (arith, split_few space line); rest = sym (ahead_none (numbers_of (filled (split space line)))) })
 
-module _ (line : List ℕ) (found : Found) (at : ℕ) (short : length line ≤ longest_line) (r : Upto line found at) where
+module _ (line : List ℕ) (short : length line ≤ longest_line) (found : Found) (left : List (List ℕ)) (r : Upto line found left) where
   pub upto_few : found.count ≤ longest_line
-  upto_few = omega (arith, ap (λ (g : Found). g.count) r.held, r.few, r.within)
+  upto_few = omega (arith, ap (λ (g : Found). g.count) r.held, r.few)
 
-  module _ (p : Piece) (seen : p ≡ piece_at space line at) where
-    pub upto_end : p ≡ None → Numbers found ≡ shown (content line)
-    unfolding content shown ahead filled numbers_of
-    upto_end q = rw (le-ltb _ _ short, r.left, piece_none space line at p seen q, append-nil r.vs, r.held)
+  pub upto_end : left ≡ [] → Some found ≡ shown (content line)
+  unfolding content shown ahead filled numbers_of
+  upto_end e = rw (le-ltb _ _ short, r.rest, e, append-nil r.vs, r.held)
 
-    module _ (a e n : ℕ) (is : p ≡ At a e n) (w : List ℕ) (same : w ≡ take (e - a) (drop a line)) (row : Row) (told : (vs : List ℕ) → found ≡ found_of vs → row ≡ shown (ahead vs (word_content w))) where
-      left : numbers_of (words line) ≡ ahead r.vs (joined (word_content w) (numbers_of (filled (split space (drop n line)))))
-      left = r.left ∙ ap (λ (x : List (List ℕ)). ahead r.vs (numbers_of (filled x))) (piece_left space line at p seen a e n is w same) ∙ ap (ahead r.vs) (word_joined w (split space (drop n line)))
+  module _ (w : List ℕ) (after : List (List ℕ)) (e : left ≡ w ∷ after) where
+    long : length left ≡ length after + 1
+    long = omega (arith, ap length e)
 
-      pub upto_stop : row ≡ Faulty → Faulty ≡ shown (content line)
-      unfolding content shown ahead
-      upto_stop f =
-          let h = shown_faulty r.vs (word_content w) (sym (told r.vs r.held) ∙ f) in
-          rw (le-ltb _ _ short, left, h)
+    -- an empty word is passed over
+    pub upto_empty : eqb (length w) 0 ≡ true → Upto line found after
+    unfolding filled
+    upto_empty z =
+        let q : w ≡ [] = drop_of_length-le w {i = 0} (omega (arith, eqb-true (length w) 0 z)) in
+        record { vs = r.vs; held = r.held; few = omega (arith, r.few, long); rest = r.rest ∙ rw (e, q) }
 
-      pub upto_step : (more : Found) → row ≡ Numbers more → Upto line more n
-      upto_step more f =
-          let h = shown_read r.vs (word_content w) more (sym (told r.vs r.held) ∙ f) in
-          let k = piece_known space line at p seen a e n is in
+    module _ (some : eqb (length w) 0 ≡ false) (x : Option ℕ) (told : x ≡ number_of w) where
+      more : numbers_of (words line) ≡ ahead r.vs (and_then x (numbers_of (filled after)))
+      unfolding filled numbers_of
+      more = r.rest ∙ rw (e, told) (go w (eqb-false (length w) 0 some))
+        where
+          go : (u : List ℕ) → (length u ≡ 0 → ⊥) → ahead r.vs (numbers_of (filled (u ∷ after))) ≡ ahead r.vs (and_then (number_of u) (numbers_of (filled after)))
+          go [] n = absurd (n refl)
+          go (b ∷ u) n = refl
+
+      pub upto_stop : x ≡ None → None ≡ shown (content line)
+      unfolding content shown ahead and_then
+      upto_stop q = rw (le-ltb _ _ short, more, q)
+
+      pub upto_step : (v : ℕ) → x ≡ Some v → (found' : Found) → ((vs : List ℕ) → found ≡ found_of vs → found' ≡ found_of (vs ++ (v ∷ []))) → Upto line found' after
+      upto_step v q found' added =
           record {
-            vs = r.vs ++ h.us;
-            held = h.held;
-            few = omega (arith, length-append r.vs h.us, word_few w h.us h.is, r.few, k.onward);
-            within = k.within;
-            left =
-                left
-                ∙ ap (λ (x : Content). ahead r.vs (joined x (numbers_of (filled (split space (drop n line)))))) h.is
-                ∙ ahead_assoc r.vs h.us (numbers_of (filled (split space (drop n line))));
+            vs = r.vs ++ (v ∷ []);
+            held = added r.vs r.held;
+            few = omega (arith, length-append r.vs (v ∷ []), r.few, long);
+            rest = more ∙ rw q (ahead_then r.vs v (numbers_of (filled after)));
           }
 
-pub row_long : (line : List ℕ) → longest_line < length line → Faulty ≡ shown (content line)
+pub row_long : (line : List ℕ) → longest_line < length line → None ≡ shown (content line)
 unfolding content shown
 row_long line h = rw (lt-ltb _ _ h)
 
 -- what a line's answer says of the line
-module _ (row : Row) (c : Content) (seen : row ≡ shown c) where
-  pub row_faulty : row ≡ Faulty → c ≡ faulty
-  row_faulty e = shown_faulty [] c (rw (ahead_none c) (sym seen ∙ e))
+pub record Read (c : Content) (f : Found) : Type 0 where
+  pub vs : List ℕ
+  pub is : c ≡ numbers vs
+  pub held : f ≡ found_of vs
 
-  pub row_held : (f : Found) → row ≡ Numbers f → Read [] c f
-  row_held f e = shown_read [] c f (rw (ahead_none c) (sym seen ∙ e))
+module _ (row : Option Found) where
+  pub row_faulty : (c : Content) → row ≡ shown c → row ≡ None → c ≡ faulty
+  unfolding shown
+  row_faulty faulty seen e = refl
+  row_faulty (numbers vs) seen e = cc
+
+  pub row_held : (c : Content) → row ≡ shown c → (f : Found) → row ≡ Some f → Read c f
+  unfolding shown
+  row_held faulty seen f e = cc
+  row_held (numbers vs) seen f e = record { vs = vs; is = refl; held = cc }

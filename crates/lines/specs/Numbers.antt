@@ -1,7 +1,5 @@
 -- The numbers of a line.
-use Rattle.std.specs.Prelude.{ℕ, ◌+◌, ◌*◌, ◌-◌, Bool, true, cond, ◌&&◌, List, [], ◌∷◌, leb, ltb, length}
-use Rattle.lines.specs.declared.numbers.Number.{Number}
-use Rattle.lines.specs.declared.numbers.Number.TheVariants.{Is, Faulty}
+use Rattle.std.specs.Prelude.{ℕ, ◌+◌, ◌*◌, ◌-◌, Bool, true, cond, ◌&&◌, List, [], ◌∷◌, leb, ltb, length, Option, Some, None}
 use Rattle.lines.specs.Pieces.{split}
 
 abbrev pub is_digit : ℕ → Bool
@@ -20,8 +18,8 @@ abbrev pub most_digits : ℕ
 most_digits = 9
 
 -- a word as a number: 1 to 9 digits, leading zeros allowed
-unfoldable pub number_of : List ℕ → Number
-number_of w = cond (leb 1 (length w) && leb (length w) most_digits && digits_only w) (Is (value_from 0 w)) Faulty
+unfoldable pub number_of : List ℕ → Option ℕ
+number_of w = cond (leb 1 (length w) && leb (length w) most_digits && digits_only w) (Some (value_from 0 w)) None
 
 abbrev pub space : ℕ
 space = 32
@@ -41,10 +39,10 @@ pub data Content : Type 0 where
   faulty : Content
   numbers : List ℕ → Content
 
-unfoldable pub and_then : Number → Content → Content
-and_then Faulty c = faulty
-and_then (Is v) faulty = faulty
-and_then (Is v) (numbers vs) = numbers (v ∷ vs)
+unfoldable pub and_then : Option ℕ → Content → Content
+and_then None c = faulty
+and_then (Some v) faulty = faulty
+and_then (Some v) (numbers vs) = numbers (v ∷ vs)
 
 -- words that are all numbers
 unfoldable pub numbers_of : List (List ℕ) → Content

@@ -1,69 +1,58 @@
 // A lent list of bytes in pieces, each ended by one byte: a text's lines, ended by LF, and a line's words, ended by a space.
-ghost use Rattle.std.specs.Prelude.{◌≡◌, ◌-◌, ◌≤◌, length, take, drop};
-ghost use Rattle.lines.specs.Pieces.{piece_at, line_at};
-ghost use Rattle.lines.specs.Answers.{Ended};
+ghost use Rattle.std.specs.Prelude.{◌≡◌};
+ghost use Rattle.std.specs.Iterator.{YieldsFirstRef, item_count};
+ghost use Rattle.lines.specs.Pieces.{split, LF, lines};
+ghost use Rattle.lines.specs.Answers.{Cut, pieces_of};
 
-pub const LF: u8 = 10;
+pub const LF: u8 = b'\n';
 
-// The next piece: its start, its end, and where the next one starts; or none is left.
-#[derive(Clone, Copy)]
-pub enum Piece {
-    At {
-        start: usize,
-        end: usize,
-        next: usize,
-    },
-    None,
+// The pieces of what is left of a list, in their order. A piece is a part of the list, and what ends it is left out.
+#[derive(Drop)]
+pub struct Pieces<'a> {
+    pub rest: &'a [u8],
+    pub stop: u8,
 }
 
-// Where the piece that starts at `at` ends.
-pub fn end_of(text: &[u8], at: usize, stop: u8) -> usize
-    requires { at ≤ length text.now }
-    ensures { Ended text.now at stop result }
-{
-    let mut i = at;
-    while i < text.len() {
-        if text[i] == stop {
-            return i;
-        }
-        i += 1;
-    }
-    i
-}
-
-pub fn next_piece(text: &[u8], at: usize, stop: u8) -> Piece
-    ensures { result ≡ piece_at stop text.now at }
-{
-    if text.len() <= at {
-        return Piece::None;
-    }
-    let end = end_of(text, at, stop);
-    if end < text.len() {
-        Piece::At {
-            start: at,
-            end: end,
-            next: end + 1,
-        }
-    } else {
-        Piece::At {
-            start: at,
-            end: end,
-            next: end,
-        }
+impl<'a> Pieces<'a> {
+    pub fn new(text: &'a [u8], stop: u8) -> Pieces<'a>
+        ensures pieces { pieces_of result ≡ split stop text.now }
+        ensures stop { result.stop ≡ stop }
+    {
+        Pieces { rest: text, stop }
     }
 }
 
-// The next line of a text.
-pub fn next_line(text: &[u8], at: usize) -> Piece
-    ensures { result ≡ line_at text.now at }
-{
-    next_piece(text, at, LF)
+impl<'a> Iterator for Pieces<'a> {
+    type Item = &'a [u8];
+
+    ghost next_gives = { λ p x q. YieldsFirstRef pieces_of p x q × (q.stop ≡ p.stop) };
+
+    ghost remaining = { item_count pieces_of };
+
+    fn next(&mut self) -> Option<&'a [u8]> {
+        if self.rest.is_empty() {
+            return None;
+        }
+        let (piece, rest) = cut(self.rest, self.stop);
+        self.rest = rest;
+        Some(piece)
+    }
 }
 
-// The bytes of a piece, as a part of the text; what ends it is left out.
-pub fn bytes(text: &[u8], start: usize, end: usize) -> &[u8]
-    requires { (start ≤ end) × (end ≤ length text.now) }
-    ensures { result.now ≡ take (end - start) (drop start text.now) }
+// What stands before the first byte that ends a piece, and what stands past it.
+pub fn cut(text: &[u8], stop: u8) -> (&[u8], &[u8])
+    ensures { Cut stop text.now result.0.now result.1.now }
 {
-    &text[start..end]
+    match text.iter().position(|b| *b == stop) {
+        Some(end) => (&text[..end], &text[end + 1..]),
+        None => (text, &[]),
+    }
+}
+
+// The lines of a text.
+pub fn lines(text: &[u8]) -> Pieces<'_>
+    ensures pieces { pieces_of result ≡ lines text.now }
+    ensures stop { result.stop ≡ LF }
+{
+    Pieces::new(text, LF)
 }

@@ -2,46 +2,48 @@
 ghost use Rattle.parts.specs.Share.{LinkAsk, Linked, HangAsk, Hung, ShareAsk, Sharing};
 
 use memory::decomposer::{CHAINS, ORDER, PENDING};
+use memory::layout::Layout;
 
 // Place i becomes the last of the part c. The number of pending parts then.
-fn link(n: usize, w: &mut [u32], b: usize, i: usize, c: usize, k: usize) -> usize
-    requires { LinkAsk n b i c k w.old }
-    ensures { Linked n b i c k w.old w.new result }
+fn link(w: &mut [u32], at: Layout, i: usize, c: usize, k: usize) -> usize
+    requires { LinkAsk at.n at.base i c k w.old }
+    ensures { Linked at.n at.base i c k w.old w.new result }
 {
-    let t = w[b + CHAINS * n + c] as usize;
-    w[b + CHAINS * n + c] = i as u32;
-    w[b + CHAINS * n + i] = n as u32;
-    if t < n {
-        w[b + CHAINS * n + t] = i as u32;
+    let chains = at.base + CHAINS * at.n;
+    let t = w[chains + c] as usize;
+    w[chains + c] = i as u32;
+    w[chains + i] = at.n as u32;
+    if t < at.n {
+        w[chains + t] = i as u32;
         return k;
     }
-    w[b + PENDING * n + 2 + k] = i as u32;
+    w[at.base + PENDING * at.n + 2 + k] = i as u32;
     k + 1
 }
 
 // Place i is handed out, if its vertex has no label yet.
-fn hang(n: usize, w: &mut [u32], b: usize, i: usize, k: usize) -> usize
-    requires { HangAsk n b i k w.old }
-    ensures { Hung n b i k w.old w.new result }
+fn hang(w: &mut [u32], at: Layout, i: usize, k: usize) -> usize
+    requires { HangAsk at.n at.base i k w.old }
+    ensures { Hung at.n at.base i k w.old w.new result }
 {
-    let v = w[b + ORDER * n + 2 + i] as usize;
-    let c = w[b + v] as usize;
-    if c < n {
+    let v = w[at.base + ORDER * at.n + 2 + i] as usize;
+    let c = w[at.base + v] as usize;
+    if c < at.n {
         return k;
     }
-    link(n, w, b, i, c, k)
+    link(w, at, i, c, k)
 }
 
-// The places of the part whose chain begins at h are handed out; its new parts are base .. lim - 1. The number of those that have vertices.
-pub fn share(n: usize, w: &mut [u32], b: usize, base: usize, lim: usize, h: usize) -> usize
-    requires { ShareAsk n b base lim h w.old }
-    ensures { Sharing n b base lim w.old n w.new result }
+// The places of the part whose chain begins at h are handed out; its new parts are first .. end - 1. The number of those that have vertices.
+pub fn share(w: &mut [u32], at: Layout, first: usize, end: usize, h: usize) -> usize
+    requires { ShareAsk at.n at.base first end h w.old }
+    ensures { Sharing at.n at.base first end w.old at.n w.new result }
 {
     let mut k = 0;
     let mut i = h;
-    while i < n {
-        let y = w[b + CHAINS * n + i] as usize;
-        k = hang(n, w, b, i, k);
+    while i < at.n {
+        let y = w[at.base + CHAINS * at.n + i] as usize;
+        k = hang(w, at, i, k);
         i = y;
     }
     k

@@ -1,5 +1,5 @@
 // The chooser: a kind of pivot and a 32-bit state, lent by `&mut`.
-ghost use Rattle.std.specs.Prelude.{◌≡◌};
+ghost use Rattle.std.specs.Prelude.{◌≡◌, eqb};
 ghost use Rattle.graph.specs.Pivot.{draw as drawn};
 ghost use Rattle.pivot.specs.Kinds.{Reads};
 
@@ -10,6 +10,15 @@ use graph::refusal::Refusal;
 pub struct Chooser {
     pub kind: u32,
     pub state: u32,
+}
+
+impl Chooser {
+    // Are pivots drawn?
+    pub fn draws(self) -> bool
+        ensures { result ≡ eqb self.kind 1 }
+    {
+        Pivots::try_from(self.kind) == Ok(Pivots::Drawn)
+    }
 }
 
 // Which vertex of what is left is the pivot: the lowest, a drawn one, or the first in the caller's list.

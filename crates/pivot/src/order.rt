@@ -3,7 +3,6 @@ ghost use Rattle.std.specs.Prelude.{[]};
 ghost use Rattle.pivot.specs.Order.{Ordered};
 ghost use Rattle.pivot.specs.Placing.{Room, Place, Placed, Begun, Listing, Rest, AllPlaced};
 
-use memory::decomposer::ORDER;
 use memory::layout::Layout;
 
 // Vertex v takes place k of the order, unless it is marked; gives the next free place.
@@ -18,7 +17,7 @@ fn place(w: &mut [u32], at: Layout, k: usize, v: usize) -> usize
         return k;
     }
     w[at.base + v] = 1;
-    w[at.base + ORDER * at.n + 2 + k] = v as u32;
+    w[at.order() + k] = v as u32;
     k + 1
 }
 
@@ -60,5 +59,5 @@ pub fn rising(w: &mut [u32], at: Layout)
     requires { Room at.n at.base w.old }
     ensures { Ordered at.n [] at.base w.old w.new }
 {
-    memory::count(w, at.base + ORDER * at.n + 2, at.n, 0);
+    memory::count(w, at.order(), at.n, 0);
 }

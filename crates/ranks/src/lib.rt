@@ -31,7 +31,7 @@ fn counts(table: &Table, label: &[u32], w: &mut [u32], base: usize)
     let at = Layout {
         n: table.n,
         m: table.sources.len(),
-        base: base,
+        base,
     };
     memory::fill(w, base + COUNTS * at.n, at.n + 1, 0);
     let sources = table.sources;
@@ -137,7 +137,7 @@ pub fn ranks(table: &Table, label: &[u32], w: &mut [u32], base: usize) -> bool
     let at = Layout {
         n: table.n,
         m: table.sources.len(),
-        base: base,
+        base,
     };
     build::renumber(table, &mut w[..at.n + 1 + at.m]);
     memory::fill(w, base + RANKS * at.n, at.n, 0);

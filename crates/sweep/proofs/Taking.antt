@@ -14,7 +14,7 @@ use Rattle.memory.specs.Decomposer.{col}
 use Rattle.memory.proofs.Memory.{framed_inside}
 use Rattle.split.specs.State.{held, labelled, rings}
 use Rattle.split.specs.Split.{PivotAsk, Split}
-use Rattle.split.proofs.Same.{stage_moved}
+use Rattle.split.proofs.Same.{top_le, stage_moved}
 use Rattle.split.proofs.Rings.{rings_one, rings_alone}
 use Rattle.slices.specs.Slice.{SliceAsk, Sliced}
 use Rattle.sweep.specs.Taken.{Ready, TakeAsk, Taken}
@@ -22,6 +22,9 @@ use Rattle.sweep.specs.Taken.{Ready, TakeAsk, Taken}
 module _ {g : Graph} {slicing b p q top : ℕ} {w : List ℕ} (a : TakeAsk g slicing b p q top w) where
   pub pivot_ask : PivotAsk g b p q top w
   pivot_ask = record { stage = a.ready.stage; start = a.start; live = a.live; part = a.ready.part }
+
+  pub take_room : top ≤ 1000000
+  take_room = omega (arith, top_le a.ready.stage, a.ready.stage.tables.small)
 
   pub slice_ask : slicing ≡ 1 → SliceAsk g b p q top w
   slice_ask o = record { ask = pivot_ask; untouched = (a.ready.uncut o).untouched }

@@ -15,10 +15,10 @@ fn take(w: &mut [u32], at: Layout, p: usize, q: u32, top: usize, method: Method)
 {
     match method {
         Method::Split => {
-            split::split(at.n, at.m, w, at.base, p, q, top as u32);
+            split::split(w, at, p, q, top as u32);
             top + 2
         }
-        Method::Slice => slices::slice::slice(at.n, at.m, w, at.base, p, q, top),
+        Method::Slice => slices::slice::slice(w, at, p, q, top),
     }
 }
 

@@ -6,6 +6,7 @@ ghost use Rattle.sweep.specs.Drawn.{PickAsk, Picked, DrawAsk, Drawn, RunAsk, Dra
 
 use crate::{Method, Outcome, set};
 use memory::layout::Layout;
+use paint::Map;
 
 // The generator's state, how many vertices are left of the part, and the first colour that no part has.
 #[derive(Clone, Copy)]
@@ -32,9 +33,21 @@ fn take(
     match method {
         Method::Split => {
             let f = now.top as u32;
-            let s = set::search(w, words, at.forward(), p, q, f, q, f, now.left);
-            let t = set::search(w, words, at.backward(), p, q, f + 1, f, f + 2, s.left);
-            split::label(at.n, w, at.base, t.k, f + 2);
+            let reached = Map {
+                a: q,
+                a2: f,
+                c: q,
+                c2: f,
+            };
+            let reaching = Map {
+                a: q,
+                a2: f + 1,
+                c: f,
+                c2: f + 2,
+            };
+            let s = set::search(w, words, at.forward(), p, reached, now.left);
+            let t = set::search(w, words, at.backward(), p, reaching, s.left);
+            split::label(w, at, t.k, f + 2);
             Course {
                 left: t.left,
                 top: now.top + 2,
@@ -43,9 +56,15 @@ fn take(
         }
         Method::Slice => {
             let r = (5 * at.n + 5) as u32;
-            let s = set::search(w, words, at.forward(), p, q, r, q, r, now.left);
-            slices::seeds::mark(at.n, w, at.base, p, r, 0);
-            let t = slices::slice::cuts(at.n, at.m, w, at.base, r, now.top);
+            let reached = Map {
+                a: q,
+                a2: r,
+                c: q,
+                c2: r,
+            };
+            let s = set::search(w, words, at.forward(), p, reached, now.left);
+            slices::seeds::mark(w, at, p, r, 0);
+            let t = slices::slice::cuts(w, at, r, now.top);
             Course {
                 left: s.left,
                 top: t,
@@ -56,14 +75,7 @@ fn take(
 }
 
 // One draw: the pivot is the vertex drawn from what is left of the part q.
-fn turn(
-    w: &mut [u32],
-    words: &mut [u64],
-    at: Layout,
-    q: u32,
-    now: Course,
-    method: Method,
-) -> Course
+fn turn(w: &mut [u32], words: &mut [u64], at: Layout, q: u32, now: Course, method: Method) -> Course
     requires { SomeOf at.n at.m (λ g. DrawAsk g (slicing_of method) at.base q now.top w.old words.old now.left) }
     ensures { EveryOf at.n at.m (λ g. DrawAsk g (slicing_of method) at.base q now.top w.old words.old now.left → Drawn g (slicing_of method) at.base q now.state now.top w.old w.new words.new result.state result.left result.top) }
 {

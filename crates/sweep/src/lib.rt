@@ -7,7 +7,7 @@ ghost use Rattle.sweep.specs.Methods.{slicing_of, Reads};
 
 use graph::refusal::Refusal;
 use memory::layout::Layout;
-use pivot::chooser::{Chooser, Pivots};
+use pivot::chooser::Chooser;
 
 pub mod chain;
 pub mod drawn;
@@ -56,7 +56,7 @@ pub fn sweep(
     requires { SomeOf at.n at.m (λ g. KindAsk g (slicing_of method) at.base h q top w.old words.old) }
     ensures { EveryOf at.n at.m (λ g. KindAsk g (slicing_of method) at.base h q top w.old words.old → KindSwept g (slicing_of method) at.base q chooser.kind chooser.state top w.old words.old w.new words.new result.state result.draws result.top) }
 {
-    if Pivots::try_from(chooser.kind) == Ok(Pivots::Drawn) {
+    if chooser.draws() {
         let k = (at.n + 63) / 64;
         return drawn::sweep(w, &mut words[..k], at, h, q, chooser.state, top, method);
     }

@@ -1,10 +1,11 @@
 // What remains of a part as a set of bits: filled along its chain, and what a search paints taken out.
 ghost use Rattle.graph.specs.Arrows.{Some, Every};
-ghost use Rattle.paint.specs.Colours.{paint};
+ghost use Rattle.paint.specs.Colours.{paint_of};
 ghost use Rattle.sweep.specs.Drawn.{EnterAsk, Entered, MarkAsk, Marks, StrikeAsk, Struck, EraseAsk, Erased, FindAsk, FoundIn};
 
 use memory::decomposer::{CHAINS, ORDER};
 use memory::layout::{Direction, Layout};
+use paint::Map;
 
 // How many a search has painted, and how many are left in the set.
 #[derive(Clone, Copy)]
@@ -45,11 +46,11 @@ fn strike(words: &mut [u64], v: usize, left: usize) -> usize
     requires { StrikeAsk v words.old left }
     ensures { Struck v words.old left words.new result }
 {
-    if sets::has(words, v) == 0 {
-        return left;
+    if sets::has(words, v) {
+        sets::remove(words, v);
+        return left - 1;
     }
-    sets::remove(words, v);
-    left - 1
+    left
 }
 
 // The first k of the queue are taken out of the set. Its size.
@@ -57,30 +58,27 @@ fn erase(w: &[u32], words: &mut [u64], along: Direction, k: usize, size: usize) 
     requires { EraseAsk along.n along.base w.now k words.old size }
     ensures { Erased along.n along.base w.now k words.old words.new result }
 {
-    let queue = &w[along.base + along.n..];
+    let queue = along.base + along.n;
     let mut left = size;
-    for v in &queue[..k] {
+    for v in &w[queue..queue + k] {
         left = strike(words, *v as usize, left);
     }
     left
 }
 
-// `paint::search` in the part q from p, where the set loses what is painted.
+// `paint::search` in the part of the colour a from p, where the set loses what is painted.
 pub fn search(
     w: &mut [u32],
     words: &mut [u64],
     along: Direction,
     p: usize,
-    q: u32,
-    q2: u32,
-    c: u32,
-    c2: u32,
+    map: Map,
     size: usize,
 ) -> Found
-    requires { Some along.n (λ g. FindAsk g (paint q q2 c c2) along.index along.base p q w.old words.old size) }
-    ensures { Every along.n (λ g. FindAsk g (paint q q2 c c2) along.index along.base p q w.old words.old size → FoundIn g (paint q q2 c c2) along.base p q w.old w.new words.new result.k result.left) }
+    requires { Some along.n (λ g. FindAsk g (paint_of map) along.index along.base p map.a w.old words.old size) }
+    ensures { Every along.n (λ g. FindAsk g (paint_of map) along.index along.base p map.a w.old words.old size → FoundIn g (paint_of map) along.base p map.a w.old w.new words.new result.k result.left) }
 {
-    let s = paint::search(along.n, w, along.index, along.base, p, q, q2, c, c2);
+    let s = paint::search(w, along, p, map);
     let left = erase(w, words, along, s.k, size);
-    Found { k: s.k, left: left }
+    Found { k: s.k, left }
 }

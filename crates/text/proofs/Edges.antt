@@ -1,31 +1,22 @@
 -- The entry lines.
-use Prim.Native.Nat.{ℕ, zero, suc, ◌+◌, ◌-◌, ◌≤◌, ◌<◌}
-use native.Mathlib.Numerals.{add-one}
-use native.Mathlib.Omega.{arith}
-use mathlib.Core.Path.{◌≡◌, refl, sym, ◌∙◌, ap}
-use mathlib.Core.Bool.{Bool, true, false, cond, not, ◌&&◌}
-use mathlib.Core.List.{List, [], ◌∷◌, ◌++◌, append_assoc}
-use lib.Dec.{eqb, leb}
-use lib.ListN.{length, take, drop, set, length-set, take-append-drop, drop_of_length-le}
-use lib.Seq.{take-suc-set, drop-set-lt, drop-drop}
-use borrow.Author.Tests.{ne_eqb, le-leb, lt-leb, not-true, not-false}
-use Rattle.lines.specs.Pieces.{LF, lines, piece_at}
+use Rattle.std.proofs.Common.{ℕ, zero, suc, ◌+◌, ◌-◌, ◌≤◌, ◌<◌, add-one, arith, ◌≡◌, refl, sym, ◌∙◌, ap, Bool, true, false, cond, ◌&&◌, leb, List, [], ◌∷◌, ◌++◌, append_assoc, length, take, drop, set, get_or, length-set, Option, Some, None, Ok, Err, is_some, Result as Answer}
+use Rattle.std.specs.Result.{result_unwrap_or}
+use Rattle.std.proofs.Math.Seq.{take-suc-set, drop-set-lt, drop-drop}
+use lib.ListN.{take-append-drop}
+use native.Mathlib.Nat.{suc-ne-zero}
+use borrow.Author.Tests.{ne_eqb, le-leb, lt-leb}
+use Rattle.graph.specs.declared.refusal.Refusal.{Refusal}
+use Rattle.graph.specs.Reasons.{number_of}
+use Rattle.lines.specs.Pieces.{lines}
 use Rattle.lines.specs.Numbers.{numbers, content}
 use Rattle.lines.specs.Answers.{shown}
 use Rattle.lines.specs.declared.numbers.Found.{Found}
-use Rattle.lines.specs.declared.numbers.Row.{Row}
-use Rattle.lines.specs.declared.numbers.Row.TheVariants.{Numbers, Faulty as FaultyRow}
-use Rattle.lines.specs.declared.pieces.Piece.{Piece}
-use Rattle.lines.specs.declared.pieces.Piece.TheVariants.{At, None}
-use Rattle.lines.proofs.Split.{piece_none, piece_left}
 use Rattle.lines.proofs.Rows.{Read, row_faulty, row_held, found_none, found_two}
-use Rattle.text.specs.declared.entries.Entry.{Entry}
-use Rattle.text.specs.declared.entries.Entry.TheVariants.{Blank, Edge, Faulty}
-use Rattle.text.specs.declared.entries.Left.{Left}
-use Rattle.text.specs.declared.entries.Left.TheVariants.{Is, Faulty as TooMany}
-use Rattle.text.specs.Market.{Result, refused, done, Arrow, inside, entry_of, with_edge, at_entry, entries}
-use Rattle.text.specs.Steps.{is_done, left_after, place_after, sources_after, targets_after, Put, column, FillAsk, edges_of, Filled}
-use Rattle.text.proofs.Tables.{inside_both, entries_count}
+use Rattle.text.specs.declared.entries.Edge.{Edge}
+use Rattle.text.specs.declared.Size.{Size}
+use Rattle.text.specs.Market.{Result, refused, done, as_reading, inside, entry_of, with_edge, at_entry, entries}
+use Rattle.text.specs.Steps.{only_judged, column, FillAsk, edges_of, Filled}
+use Rattle.text.proofs.Tables.{inside_both}
 
 module _ (n i : ℕ) where
   pub inside_none : i < 1 → false ≡ inside n i
@@ -36,128 +27,139 @@ module _ (n i : ℕ) where
   unfolding inside
   inside_some h = rw (le-leb _ _ h)
 
-  pub inside_low : (t : Bool) → t ≡ inside n i → not t ≡ false → 1 ≤ i
-  inside_low t e f = (inside_both n i (sym e ∙ not-false t f)).0
+  pub inside_low : (t : Bool) → t ≡ inside n i → t ≡ true → 1 ≤ i
+  inside_low t e f = (inside_both n i (sym e ∙ f)).0
 
 -- one line
-module _ (n : ℕ) (line : List ℕ) (row : Row) (seen : row ≡ shown (content line)) where
-  pub entry_is_faulty : row ≡ FaultyRow → Faulty ≡ entry_of n (content line)
+module _ (n : ℕ) (line : List ℕ) (row : Option Found) (seen : row ≡ shown (content line)) where
+  pub entry_is_faulty : row ≡ None → refused 15 ≡ entry_of n (content line)
   unfolding entry_of
   entry_is_faulty e = rw (row_faulty row (content line) seen e)
 
-  module _ (f : Found) (is : row ≡ Numbers f) where
-    held : Read [] (content line) f
+  module _ (f : Found) (is : row ≡ Some f) where
+    held : Read (content line) f
     held = row_held row (content line) seen f is
 
-    pub entry_blank : f.count ≡ 0 → Blank ≡ entry_of n (content line)
+    pub entry_blank : f.count ≡ 0 → done None ≡ entry_of n (content line)
     unfolding entry_of
-    entry_blank k = rw (held.is, found_none held.us f held.held k)
+    entry_blank k = rw (held.is, found_none held.vs f held.held k)
 
-    pub entry_other : (f.count ≡ 0 → ⊥) → (f.count ≡ 2 → ⊥) → Faulty ≡ entry_of n (content line)
+    pub entry_other : (f.count ≡ 0 → ⊥) → (f.count ≡ 2 → ⊥) → refused 15 ≡ entry_of n (content line)
     unfolding entry_of
-    entry_other k m = rw held.is (other held.us (λ q. k (many ∙ q)) (λ q. m (many ∙ q)))
+    entry_other k m = rw held.is (other held.vs (λ q. k (many ∙ q)) (λ q. m (many ∙ q)))
       where
-        many : f.count ≡ length held.us
+        many : f.count ≡ length held.vs
         many = ap (λ (g : Found). g.count) held.held
 
-        other : (vs : List ℕ) → (length vs ≡ 0 → ⊥) → (length vs ≡ 2 → ⊥) → Faulty ≡ entry_of n (numbers vs)
+        other : (vs : List ℕ) → (length vs ≡ 0 → ⊥) → (length vs ≡ 2 → ⊥) → refused 15 ≡ entry_of n (numbers vs)
         other [] k m = absurd (k refl)
         other (x ∷ []) k m = refl
         other (x ∷ y ∷ []) k m = absurd (m refl)
         other (x ∷ y ∷ z ∷ vs) k m = refl
 
-    module _ (two : f.count ≡ 2) (t : Bool) (first : t ≡ inside n f.first) where
-      entry_two : entry_of n (content line) ≡ cond (t && inside n f.second) (Edge (f.first - 1) (f.second - 1)) Faulty
+    module _ (two : f.count ≡ 2) (t : Bool) (first : t ≡ inside n (get_or f.numbers 0 0)) where
+      abbrev its : Edge
+      its = record { source = get_or f.numbers 0 0 - 1; target = get_or f.numbers 1 0 - 1 }
+
+      entry_two : entry_of n (content line) ≡ cond (t && inside n (get_or f.numbers 1 0)) (done (Some its)) (refused 15)
       unfolding entry_of
-      entry_two = rw (held.is, found_two held.us f held.held two, first)
+      entry_two = rw (held.is, found_two held.vs f held.held two, first)
 
-      pub entry_first : not t ≡ true → Faulty ≡ entry_of n (content line)
-      entry_first a = rw (entry_two, not-true t a)
+      pub entry_first : t ≡ false → refused 15 ≡ entry_of n (content line)
+      entry_first a = rw (entry_two, a)
 
-      module _ (right : not t ≡ false) (t' : Bool) (second : t' ≡ inside n f.second) where
-        pub entry_second : not t' ≡ true → Faulty ≡ entry_of n (content line)
-        entry_second a = rw (entry_two, not-false t right, ← second, not-true t' a)
+      module _ (right : t ≡ true) (t' : Bool) (second : t' ≡ inside n (get_or f.numbers 1 0)) where
+        pub entry_second : t' ≡ false → refused 15 ≡ entry_of n (content line)
+        entry_second a = rw (entry_two, right, ← second, a)
 
-        pub entry_edge : not t' ≡ false → Edge (f.first - 1) (f.second - 1) ≡ entry_of n (content line)
-        entry_edge a = rw (entry_two, not-false t right, ← second, not-false t' a)
+        pub entry_edge : t' ≡ true → done (Some its) ≡ entry_of n (content line)
+        entry_edge a = rw (entry_two, right, ← second, a)
 
--- how many are still to come after an edge
-module _ (x : Entry) (s t : ℕ) (e : x ≡ Edge s t) where
-  pub left_none : (k : ℕ) → k ≡ 0 → TooMany ≡ left_after x k
-  unfolding left_after
-  left_none k z = rw (e, z)
+-- judging: what was read does not matter
+edge_judged : (a : Edge) (r : Result (List Edge)) → only_judged (with_edge a r) ≡ only_judged r
+unfolding only_judged with_edge
+edge_judged a (refused k) = refl
+edge_judged a (done es) = refl
 
-  pub left_some : (k : ℕ) → (k ≡ 0 → ⊥) → Is (k - 1) ≡ left_after x k
-  unfolding left_after
-  left_some zero n = absurd (n refl)
-  left_some (suc k) n = rw e (ap Is (omega arith))
+-- all lines are judged
+module _ (whole : Result (Unit {0})) (n left : ℕ) (now : List (List ℕ)) (so_far : whole ≡ only_judged (entries n left now)) (none : now ≡ []) where
+  pub judged_short : (left ≡ 0 → ⊥) → refused 15 ≡ whole
+  unfolding only_judged entries
+  judged_short h = sym (so_far ∙ rw (none, ne_eqb left 0 h))
 
--- judging: only whether the rest is right matters
-edge_done : (a : Arrow) (r : Result (List Arrow)) → is_done (with_edge a r) ≡ is_done r
-unfolding is_done with_edge
-edge_done a (refused k) = refl
-edge_done a (done es) = refl
+  pub judged_all : left ≡ 0 → done tt ≡ whole
+  unfolding only_judged entries
+  judged_all h = sym (so_far ∙ rw (none, h))
 
-abbrev done_after : Left → (ℕ → Result (List Arrow)) → Bool
-done_after TooMany after = false
-done_after (Is j) after = is_done (after j)
-
-entry_done : (e : Entry) (k : ℕ) (after : ℕ → Result (List Arrow)) → is_done (at_entry e k after) ≡ done_after (left_after e k) after
-unfolding left_after at_entry is_done
-entry_done Blank k after = refl
-entry_done Faulty k after = refl
-entry_done (Edge s t) zero after = refl
-entry_done (Edge s t) (suc k) after = edge_done (record { source = s; target = t }) (after k)
-
-end_done : (t : Bool) → is_done {A = List Arrow} (cond t (done []) (refused 15)) ≡ t
-unfolding is_done
-end_done true = refl
-end_done false = refl
-
-module _ (text : List ℕ) (at n count place left : ℕ) (so_far : is_done (entries n count (lines (drop at text))) ≡ is_done (entries n left (lines (drop place text))))
-    (p : Piece) (seen : p ≡ piece_at LF text place) where
-  pub right_end : p ≡ None → eqb left 0 ≡ is_done (entries n count (lines (drop at text)))
+-- the lines are judged up to those that are left, and one more is read
+module _ (whole : Result (Unit {0})) (n left : ℕ) (now after : List (List ℕ)) (so_far : whole ≡ only_judged (entries n left now))
+    (w : List ℕ) (first : now ≡ w ∷ after) (x : Answer (Option Edge) Refusal) (read : as_reading x ≡ entry_of n (content w)) where
+  turn : whole ≡ only_judged (at_entry (as_reading x) left (λ j. entries n j after))
   unfolding entries
-  right_end q = sym (so_far ∙ rw (piece_none LF text place p seen q) (end_done (eqb left 0)))
+  turn = so_far ∙ rw (first, read)
 
-  module _ (a e next : ℕ) (is : p ≡ At a e next) (w : List ℕ) (cut : w ≡ take (e - a) (drop a text)) (x : Entry) (read : x ≡ entry_of n (content w)) (y : Left) (told : y ≡ left_after x left) where
-    turn : is_done (entries n count (lines (drop at text))) ≡ done_after y (λ j. entries n j (lines (drop next text)))
-    unfolding entries
-    turn = so_far ∙ rw (piece_left LF text place p seen a e next is w cut, ← read, told) (entry_done x left (λ j. entries n j (lines (drop next text))))
+  pub judged_stop : (r : Refusal) → x ≡ Err r → refused (number_of r) ≡ whole
+  unfolding at_entry only_judged
+  judged_stop r e = sym (turn ∙ rw e)
 
-    pub right_stop : y ≡ TooMany → false ≡ is_done (entries n count (lines (drop at text)))
-    right_stop q = sym (turn ∙ rw q)
+  module _ (o : Option Edge) (is : x ≡ Ok o) where
+    pub judged_blank : is_some o ≡ false → whole ≡ only_judged (entries n left after)
+    unfolding at_entry
+    judged_blank q = turn ∙ rw is (go o q)
+      where
+        go : (o : Option Edge) → is_some o ≡ false → only_judged (at_entry (done o) left (λ j. entries n j after)) ≡ only_judged (entries n left after)
+        go None q = refl
+        go (Some a) q = cc
 
-    pub right_step : (less : ℕ) → y ≡ Is less → is_done (entries n count (lines (drop at text))) ≡ is_done (entries n less (lines (drop next text)))
-    right_step less q = turn ∙ rw q
+    pub judged_surplus : is_some o ≡ true → left < 1 → refused 15 ≡ whole
+    unfolding at_entry only_judged
+    judged_surplus q h = sym (turn ∙ rw is (go o left q h))
+      where
+        go : (o : Option Edge) (left : ℕ) → is_some o ≡ true → left < 1 → only_judged (at_entry (done o) left (λ j. entries n j after)) ≡ refused 15
+        go None k q h = cc
+        go (Some a) zero q h = refl
+        go (Some a) (suc k) q h = absurd (omega arith)
 
-pub done_some : {A : Type 0} (r : Result A) → is_done r ≡ true → (a : A) × (r ≡ done a)
-unfolding is_done
-done_some (refused k) q = let z : ◌≡◌ {A = ℕ} 0 1 = cc in absurd (omega arith)
-done_some (done a) q = (a, refl)
+    pub judged_edge : is_some o ≡ true → (less : ℕ) → left ≡ less + 1 → whole ≡ only_judged (entries n less after)
+    unfolding at_entry
+    judged_edge q less h = turn ∙ rw (is, h, add-one less) (go o q)
+      where
+        go : (o : Option Edge) → is_some o ≡ true → only_judged (at_entry (done o) (suc less) (λ j. entries n j after)) ≡ only_judged (entries n less after)
+        go None q = cc
+        go (Some a) q = edge_judged a (entries n less after)
+
+pub judged_some : {A : Type 0} (r : Result A) → done tt ≡ only_judged r → (a : A) × (r ≡ done a)
+unfolding only_judged
+judged_some (refused k) q = cc
+judged_some (done a) q = (a, refl)
+
+pub judged_refused : {A : Type 0} (r : Result A) (k : ℕ) → refused k ≡ only_judged r → r ≡ refused k
+unfolding only_judged
+judged_refused (refused j) k q = cc
+judged_refused (done a) k q = cc
 
 -- an edge that was read, and those after it
-pub record Rest (a : Arrow) (r : Result (List Arrow)) (es : List Arrow) : Type 0 where
-  pub others : List Arrow
+pub record Rest (a : Edge) (r : Result (List Edge)) (es : List Edge) : Type 0 where
+  pub others : List Edge
   pub reads : r ≡ done others
   pub is : es ≡ a ∷ others
 
-edge_rest : (a : Arrow) (r : Result (List Arrow)) (es : List Arrow) → with_edge a r ≡ done es → Rest a r es
+edge_rest : (a : Edge) (r : Result (List Edge)) (es : List Edge) → with_edge a r ≡ done es → Rest a r es
 unfolding with_edge
-edge_rest a (refused k) es q = let z : ◌≡◌ {A = ℕ} 0 1 = cc in absurd (omega arith)
+edge_rest a (refused k) es q = cc
 edge_rest a (done xs) es q = record { others = xs; reads = refl; is = cc }
 
 -- a column is written up to place k, and what is left gives the whole
-pub record Half (f : Arrow → ℕ) (es left : List Arrow) (s₀ : List ℕ) (k : ℕ) (s : List ℕ) : Type 0 where
+pub record Half (f : Edge → ℕ) (es left : List Edge) (s₀ : List ℕ) (k : ℕ) (s : List ℕ) : Type 0 where
   pub long : length s ≡ length s₀
   pub is : column f es s₀ ≡ take k s ++ column f left (drop k s)
 
-module _ (f : Arrow → ℕ) (es : List Arrow) (s₀ : List ℕ) where
+module _ (f : Edge → ℕ) (es : List Edge) (s₀ : List ℕ) where
   half_none : Half f es es s₀ 0 s₀
   half_none = record { long = refl; is = refl }
 
   module _ (k : ℕ) (s : List ℕ) where
-    half_step : (x : Arrow) (left : List Arrow) → k < length s → Half f es (x ∷ left) s₀ k s → Half f es left s₀ (k + 1) (set s k (f x))
+    half_step : (x : Edge) (left : List Edge) → k < length s → Half f es (x ∷ left) s₀ k s → Half f es left s₀ (k + 1) (set s k (f x))
     half_step x left h a =
         let i : k < suc k = omega arith in
         let e : suc k + length left ≡ k + suc (length left) = omega arith in
@@ -169,74 +171,81 @@ module _ (f : Arrow → ℕ) (es : List Arrow) (s₀ : List ℕ) where
     half_end : Half f es [] s₀ k s → s ≡ column f es s₀
     half_end a = sym (a.is ∙ take-append-drop k s)
 
--- the table is written up to place k
-pub record Filling (text : List ℕ) (at n count : ℕ) (s₀ t₀ : List ℕ) (place k : ℕ) (s t : List ℕ) : Type 0 where
-  pub ask : FillAsk text at n count s₀ t₀
-  pub left : List Arrow
-  pub more : entries n (count - k) (lines (drop place text)) ≡ done left
-  pub low : k ≤ count
+-- the table is written up to place k, and the lines `now` are left
+pub record Filling (text : List ℕ) (size : Size) (s₀ t₀ : List ℕ) (now : List (List ℕ)) (k : ℕ) (s t : List ℕ) : Type 0 where
+  pub ask : FillAsk text size s₀ t₀
+  pub left : List Edge
+  pub more : entries size.n (size.edges - k) now ≡ done left
+  pub low : k ≤ size.edges
   pub sources : Half (λ a. a.source) ask.edges left s₀ k s
   pub targets : Half (λ a. a.target) ask.edges left t₀ k t
 
-module _ (text : List ℕ) (at n count : ℕ) (s₀ t₀ : List ℕ) where
-  pub filling_none : FillAsk text at n count s₀ t₀ → Filling text at n count s₀ t₀ at 0 s₀ t₀
-  filling_none a =
-      let z : count - 0 ≡ count = omega arith in
+module _ (text : List ℕ) (size : Size) (s₀ t₀ : List ℕ) where
+  pub filling_none : FillAsk text size s₀ t₀ → (now : List (List ℕ)) → now ≡ lines text → Filling text size s₀ t₀ now 0 s₀ t₀
+  filling_none a now e =
+      let z : size.edges - 0 ≡ size.edges = omega arith in
       let s = half_none (λ a. a.source) a.edges s₀ in
       let t = half_none (λ a. a.target) a.edges t₀ in
-      record { ask = a; left = a.edges; more = rw z a.reads; low = omega arith; sources = s; targets = t }
+      record { ask = a; left = a.edges; more = rw (e, z) a.reads; low = omega arith; sources = s; targets = t }
 
-  module _ (place k : ℕ) (s t : List ℕ) (f : Filling text at n count s₀ t₀ place k s t) where
-    pub filling_end : count ≤ k → Filled text at n count s₀ t₀ s t
-    unfolding edges_of
-    filling_end h =
-        let c = entries_count n (count - k) (lines (drop place text)) f.left f.more in
-        let none : f.left ≡ [] = drop_of_length-le f.left {i = 0} (omega arith) in
+  module _ (now : List (List ℕ)) (k : ℕ) (s t : List ℕ) (f : Filling text size s₀ t₀ now k s t) where
+    pub filling_end : now ≡ [] → Filled text size s₀ t₀ s t
+    unfolding edges_of entries
+    filling_end e =
+        let none : f.left ≡ [] = nothing (size.edges - k) f.left (rw e at f.more) in
         record {
           sources = rw f.ask.reads (half_end (λ a. a.source) f.ask.edges s₀ k s (rw none at f.sources));
           targets = rw f.ask.reads (half_end (λ a. a.target) f.ask.edges t₀ k t (rw none at f.targets));
         }
+      where
+        nothing : (j : ℕ) (left : List Edge) → entries size.n j [] ≡ done left → left ≡ []
+        nothing zero left q = let o : ◌≡◌ {A = Result (List Edge)} (done []) (done left) = q in cc
+        nothing (suc j) left q = let o : refused 15 ≡ done left = rw (ne_eqb (suc j) 0 (suc-ne-zero j)) at q in cc
 
-    module _ (h : k < count) (piece : Piece) (seen : piece ≡ piece_at LF text place) where
-      -- a line cannot be missing
-      pub filling_gap : piece ≡ None → Filled text at n count s₀ t₀ s t
+    module _ (w : List ℕ) (after : List (List ℕ)) (first : now ≡ w ∷ after) (x : Answer (Option Edge) Refusal) (read : as_reading x ≡ entry_of size.n (content w)) where
+      goes : at_entry (as_reading x) (size.edges - k) (λ i. entries size.n i after) ≡ done f.left
       unfolding entries
-      filling_gap e =
-          let z : (count - k ≡ 0 → ⊥) = λ q. omega arith in
-          let q : refused 15 ≡ done f.left = sym (rw (piece_none LF text place piece seen e, ne_eqb (count - k) 0 z)) ∙ f.more in
-          let o : ◌≡◌ {A = ℕ} 0 1 = cc in
-          absurd (omega arith)
+      goes = sym (rw (first, ← read)) ∙ f.more
 
-      module _ (a e next : ℕ) (is : piece ≡ At a e next) (w : List ℕ) (cut : w ≡ take (e - a) (drop a text)) where
-        goes : (x : Entry) → x ≡ entry_of n (content w) → at_entry x (suc (count - suc k)) (λ i. entries n i (lines (drop next text))) ≡ done f.left
-        unfolding entries
-        goes x q = let j : count - k ≡ suc (count - suc k) = omega arith in sym (rw (piece_left LF text place piece seen a e next is w cut, q, j)) ∙ f.more
+      module _ (a : Edge) (taken : result_unwrap_or x None ≡ Some a) where
+        before : (j : ℕ) (y : Answer (Option Edge) Refusal) → result_unwrap_or y None ≡ Some a → at_entry (as_reading y) j (λ i. entries size.n i after) ≡ done f.left → (1 ≤ j) × Rest a (entries size.n (j - 1) after) f.left
+        unfolding at_entry
+        before zero (Ok (Some b)) is q = cc
+        before (suc j) (Ok (Some b)) is q =
+            let e : suc j - 1 ≡ j = omega arith in
+            let same : b ≡ a = cc in
+            (omega arith, rw e (rw same at (edge_rest b (entries size.n j after) f.left q)))
+        before j (Ok None) is q = cc
+        before j (Err r) is q = cc
 
-        pub filling_step : (x : Entry) → x ≡ entry_of n (content w) → (r : ℕ) (s' t' : List ℕ) → Put x k s t r s' t' → Filling text at n count s₀ t₀ next r s' t'
-        unfolding at_entry place_after sources_after targets_after
-        filling_step Blank q r s' t' p =
-            let i : suc (count - suc k) ≡ count - r = omega (arith, p.place) in
-            record {
-              ask = f.ask;
-              left = f.left;
-              more = rw (← i) (goes Blank q);
-              low = omega (arith, p.place);
-              sources = rw (p.place, p.sources) f.sources;
-              targets = rw (p.place, p.targets) f.targets;
-            }
-        filling_step Faulty q r s' t' p =
-            let b = goes Faulty q in
-            let z : ◌≡◌ {A = ℕ} 0 1 = cc in
-            absurd (omega arith)
-        filling_step (Edge u v) q r s' t' p =
-            let x : Arrow = record { source = u; target = v } in
-            let o = edge_rest x (entries n (count - suc k) (lines (drop next text))) f.left (goes (Edge u v) q) in
-            let i : count - suc k ≡ count - r = omega (arith, p.place) in
+        one : (1 ≤ size.edges - k) × Rest a (entries size.n (size.edges - k - 1) after) f.left
+        one = before (size.edges - k) x taken goes
+
+        pub filling_room_s : k < length s
+        filling_room_s = omega (arith, one.0, f.ask.room_s, f.sources.long)
+
+        pub filling_room_t : k < length t
+        filling_room_t = omega (arith, one.0, f.ask.room_t, f.targets.long)
+
+        pub filling_step : Filling text size s₀ t₀ after (k + 1) (set s k a.source) (set t k a.target)
+        filling_step =
+            let o = one.1 in
+            let i : size.edges - k - 1 ≡ size.edges - (k + 1) = omega arith in
             record {
               ask = f.ask;
               left = o.others;
               more = rw (← i) o.reads;
-              low = omega (arith, p.place);
-              sources = rw (p.place, p.sources) (half_step (λ c. c.source) f.ask.edges s₀ k s x o.others (omega (arith, f.ask.room_s, f.sources.long)) (rw o.is at f.sources));
-              targets = rw (p.place, p.targets) (half_step (λ c. c.target) f.ask.edges t₀ k t x o.others (omega (arith, f.ask.room_t, f.targets.long)) (rw o.is at f.targets));
+              low = omega (arith, one.0);
+              sources = half_step (λ c. c.source) f.ask.edges s₀ k s a o.others filling_room_s (rw o.is at f.sources);
+              targets = half_step (λ c. c.target) f.ask.edges t₀ k t a o.others filling_room_t (rw o.is at f.targets);
             }
+
+      -- a line that is no edge is blank
+      pub filling_blank : result_unwrap_or x None ≡ None → Filling text size s₀ t₀ after k s t
+      unfolding at_entry
+      filling_blank none = record { ask = f.ask; left = f.left; more = go x none goes; low = f.low; sources = f.sources; targets = f.targets }
+        where
+          go : (y : Answer (Option Edge) Refusal) → result_unwrap_or y None ≡ None → at_entry (as_reading y) (size.edges - k) (λ i. entries size.n i after) ≡ done f.left → entries size.n (size.edges - k) after ≡ done f.left
+          go (Ok None) n q = q
+          go (Ok (Some a)) n q = cc
+          go (Err r) n q = cc

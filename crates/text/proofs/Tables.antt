@@ -13,12 +13,11 @@ use Rattle.graph.specs.Refusal.{given, ◌or◌, plain_refusal}
 use Rattle.graph.proofs.Refusals.{or_none, given_none, outside_no}
 use Rattle.lines.specs.Pieces.{lines}
 use Rattle.lines.specs.Numbers.{Content, faulty, numbers, content}
-use Rattle.text.specs.declared.entries.Entry.{Entry}
-use Rattle.text.specs.declared.entries.Entry.TheVariants.{Blank, Edge, Faulty}
-use Rattle.text.specs.declared.header.Size.{Size}
-use Rattle.text.specs.declared.header.Size.TheVariants.{Is, Refused}
-use Rattle.text.specs.Steps.{is_done}
-use Rattle.text.specs.Market.{Result, refused, done, Arrow, Table, Limits, same, banner, pass_over, size_refusal, sized, size_of, inside, entry_of, with_edge, at_entry, entries, as_table, at_size, from_size, from_first, market}
+use Rattle.text.specs.declared.entries.Edge.{Edge}
+use Rattle.text.specs.declared.header.Limits.{Limits}
+use Rattle.text.specs.declared.Size.{Size}
+use Rattle.std.proofs.Common.{Option, Some, None}
+use Rattle.text.specs.Market.{Result, refused, done, Table, same, banner, pass_over, size_refusal, sized, size_of, inside, entry_of, with_edge, at_entry, entries, as_table, at_size, from_size, from_first, market}
 
 -- every entry of a column is below n
 abbrev pub Low : ℕ → List ℕ → Type 0
@@ -40,13 +39,13 @@ Fine l (refused k) = Unit
 Fine l (done t) = Sound l t
 
 -- the entries
-record Columns (n k : ℕ) (es : List Arrow) : Type 0 where
+record Columns (n k : ℕ) (es : List Edge) : Type 0 where
   long : length es ≡ k
   sources_low : Low n (map (λ a. a.source) es)
   targets_low : Low n (map (λ a. a.target) es)
 
-FineEdges : ℕ → ℕ → Result (List Arrow) → Type 0
-FineEdges n k (refused j) = j ≡ 15
+FineEdges : ℕ → ℕ → Result (List Edge) → Type 0
+FineEdges n k (refused j) = Unit
 FineEdges n k (done es) = Columns n k es
 
 and_true : (a b : Bool) → (a && b) ≡ true → (a ≡ true) × (b ≡ true)
@@ -57,60 +56,53 @@ pub inside_both : (n i : ℕ) → inside n i ≡ true → (1 ≤ i) × (i ≤ n)
 unfolding inside
 inside_both n i e = let (p, q) = and_true _ _ e in (leb-true 1 i p, leb-true i n q)
 
-two_low : (n i j s t : ℕ) (b : Bool) → (inside n i && inside n j) ≡ b → cond b (Edge (i - 1) (j - 1)) Faulty ≡ Edge s t → (s < n) × (t < n)
-two_low n i j s t true p e =
-    let (a, b) = and_true _ _ p in
-    let x : i - 1 ≡ s = cc in
-    let y : j - 1 ≡ t = cc in
-    (omega (arith, inside_both n i a), omega (arith, inside_both n j b))
-two_low n i j s t false p e = let z : ◌≡◌ {A = ℕ} 0 1 = cc in absurd (omega arith)
+two_low : (n i j : ℕ) (a : Edge) (b : Bool) → (inside n i && inside n j) ≡ b → cond b (done (Some (record { source = i - 1; target = j - 1 }))) (refused 15) ≡ done (Some a) → (a.source < n) × (a.target < n)
+two_low n i j a true p e =
+    let hk : (inside n i ≡ true) × (inside n j ≡ true) = and_true _ _ p in
+    let q : ◌≡◌ {A = Edge} (record { source = i - 1; target = j - 1 }) a = cc in
+    let x : i - 1 ≡ a.source = ap (λ (b : Edge). b.source) q in
+    let y : j - 1 ≡ a.target = ap (λ (b : Edge). b.target) q in
+    (omega (arith, inside_both n i hk.0), omega (arith, inside_both n j hk.1))
+two_low n i j a false p e = cc
 
-entry_low : (n s t : ℕ) (c : Content) → entry_of n c ≡ Edge s t → (s < n) × (t < n)
+entry_low : (n : ℕ) (a : Edge) (c : Content) → entry_of n c ≡ done (Some a) → (a.source < n) × (a.target < n)
 unfolding entry_of
-entry_low n s t (numbers (i ∷ j ∷ [])) e = two_low n i j s t (inside n i && inside n j) refl e
-entry_low n s t (numbers []) e = let z : ◌≡◌ {A = ℕ} 0 1 = cc in absurd (omega arith)
-entry_low n s t (numbers (i ∷ [])) e = let z : ◌≡◌ {A = ℕ} 0 1 = cc in absurd (omega arith)
-entry_low n s t (numbers (i ∷ j ∷ k ∷ vs)) e = let z : ◌≡◌ {A = ℕ} 0 1 = cc in absurd (omega arith)
-entry_low n s t faulty e = let z : ◌≡◌ {A = ℕ} 0 1 = cc in absurd (omega arith)
+entry_low n a (numbers (i ∷ j ∷ [])) e = two_low n i j a (inside n i && inside n j) refl e
+entry_low n a (numbers []) e = cc
+entry_low n a (numbers (i ∷ [])) e = cc
+entry_low n a (numbers (i ∷ j ∷ k ∷ vs)) e = cc
+entry_low n a faulty e = cc
 
-edge_fine : (n k s t : ℕ) (r : Result (List Arrow)) → s < n → t < n → FineEdges n k r → FineEdges n (suc k) (with_edge (record { source = s; target = t }) r)
+edge_fine : (n k : ℕ) (a : Edge) (r : Result (List Edge)) → a.source < n → a.target < n → FineEdges n k r → FineEdges n (suc k) (with_edge a r)
 unfolding with_edge FineEdges
-edge_fine n k s t (refused j) a b f = f
-edge_fine n k s t (done es) a b f =
+edge_fine n k a (refused j) h l f = f
+edge_fine n k a (done es) h l f =
     record {
       long = ap suc f.long;
-      sources_low = low_cons n s (map (λ a. a.source) es) a f.sources_low;
-      targets_low = low_cons n t (map (λ a. a.target) es) b f.targets_low;
+      sources_low = low_cons n a.source (map (λ a. a.source) es) h f.sources_low;
+      targets_low = low_cons n a.target (map (λ a. a.target) es) l f.targets_low;
     }
 
-entry_fine : (n : ℕ) (e : Entry) (k : ℕ) (after : ℕ → Result (List Arrow)) → ((s t : ℕ) → e ≡ Edge s t → (s < n) × (t < n)) → ((j : ℕ) → FineEdges n j (after j)) → FineEdges n k (at_entry e k after)
+entry_fine : (n : ℕ) (e : Result (Option Edge)) (k : ℕ) (after : ℕ → Result (List Edge)) → ((a : Edge) → e ≡ done (Some a) → (a.source < n) × (a.target < n)) → ((j : ℕ) → FineEdges n j (after j)) → FineEdges n k (at_entry e k after)
 unfolding at_entry FineEdges
-entry_fine n Blank k after low f = f k
-entry_fine n Faulty k after low f = refl
-entry_fine n (Edge s t) zero after low f = refl
-entry_fine n (Edge s t) (suc k) after low f = let h = low s t refl in edge_fine n k s t (after k) h.0 h.1 (f k)
+entry_fine n (done None) k after low f = f k
+entry_fine n (refused j) k after low f = tt
+entry_fine n (done (Some a)) zero after low f = tt
+entry_fine n (done (Some a)) (suc k) after low f = let h = low a refl in edge_fine n k a (after k) h.0 h.1 (f k)
 
 end_fine : (n k : ℕ) (t : Bool) → eqb k 0 ≡ t → FineEdges n k (cond t (done []) (refused 15))
 unfolding FineEdges
 end_fine n k true p = record { long = sym (eqb-true k 0 p); sources_low = λ i h. absurd (omega arith); targets_low = λ i h. absurd (omega arith) }
-end_fine n k false p = refl
+end_fine n k false p = tt
 
 entries_fine : (n k : ℕ) (ls : List (List ℕ)) → FineEdges n k (entries n k ls)
 unfolding entries
 entries_fine n k [] = end_fine n k (eqb k 0) refl
-entries_fine n k (w ∷ ls) = entry_fine n (entry_of n (content w)) k (λ j. entries n j ls) (λ s t. entry_low n s t (content w)) (λ j. entries_fine n j ls)
+entries_fine n k (w ∷ ls) = entry_fine n (entry_of n (content w)) k (λ j. entries n j ls) (λ a. entry_low n a (content w)) (λ j. entries_fine n j ls)
 
-pub entries_count : (n k : ℕ) (ls : List (List ℕ)) (es : List Arrow) → entries n k ls ≡ done es → length es ≡ k
+pub entries_count : (n k : ℕ) (ls : List (List ℕ)) (es : List Edge) → entries n k ls ≡ done es → length es ≡ k
 unfolding FineEdges
 entries_count n k ls es e = let f : Columns n k es = rw e at (entries_fine n k ls) in f.long
-
-pub entries_refused : (n k : ℕ) (ls : List (List ℕ)) → is_done (entries n k ls) ≡ false → entries n k ls ≡ refused 15
-unfolding FineEdges is_done
-entries_refused n k ls = go (entries n k ls) (entries_fine n k ls)
-  where
-    go : (r : Result (List Arrow)) → FineEdges n k r → is_done r ≡ false → r ≡ refused 15
-    go (refused j) f q = ap refused f
-    go (done es) f q = let z : ◌≡◌ {A = ℕ} 0 1 = cc in absurd (omega arith)
 
 -- the size line
 record Taken (l : Limits) (n m : ℕ) : Type 0 where
@@ -118,9 +110,9 @@ record Taken (l : Limits) (n m : ℕ) : Type 0 where
   few : m ≤ l.most_edges
   fits : m ≤ l.room
 
-FineSize : Limits → Size → Type 0
-FineSize l (Refused k) = Unit
-FineSize l (Is n m) = Taken l n m
+FineSize : Limits → Result Size → Type 0
+FineSize l (refused k) = Unit
+FineSize l (done s) = Taken l s.n s.edges
 
 size_taken : (l : Limits) (x y z : ℕ) → size_refusal l x y z ≡ 0 → Taken l x z
 unfolding size_refusal
@@ -134,7 +126,7 @@ size_taken l x y z e =
       fits = ltb-false l.room z (given_none 5 _ (suc-ne-zero 4) e4);
     }
 
-sized_fine : (l : Limits) (x y z : ℕ) (t : Bool) → eqb (size_refusal l x y z) 0 ≡ t → FineSize l (cond t (Is x z) (Refused (size_refusal l x y z)))
+sized_fine : (l : Limits) (x y z : ℕ) (t : Bool) → eqb (size_refusal l x y z) 0 ≡ t → FineSize l (cond t (done (record { n = x; edges = z })) (refused (size_refusal l x y z)))
 unfolding FineSize
 sized_fine l x y z true p = size_taken l x y z (eqb-true _ _ p)
 sized_fine l x y z false p = tt
@@ -149,19 +141,19 @@ size_fine l (numbers (x ∷ y ∷ z ∷ u ∷ vs)) = tt
 size_fine l faulty = tt
 
 -- a size line that is taken leaves room for its entries
-pub size_fits : (l : Limits) (c : Content) (n m : ℕ) → size_of l c ≡ Is n m → m ≤ l.room
+pub size_fits : (l : Limits) (c : Content) (s : Size) → size_of l c ≡ done s → s.edges ≤ l.room
 unfolding FineSize
-size_fits l c n m e = let t : Taken l n m = rw e at (size_fine l c) in t.fits
+size_fits l c s e = let t : Taken l s.n s.edges = rw e at (size_fine l c) in t.fits
 
-table_fine : (l : Limits) (n m : ℕ) (r : Result (List Arrow)) → Taken l n m → FineEdges n m r → Fine l (as_table n r)
+table_fine : (l : Limits) (n m : ℕ) (r : Result (List Edge)) → Taken l n m → FineEdges n m r → Fine l (as_table n r)
 unfolding as_table FineEdges Fine
 table_fine l n m (refused k) t f = tt
 table_fine l n m (done es) t f = record { vertices = t.vertices; few = omega (arith, f.long, t.few); fits = omega (arith, f.long, t.fits); sources_low = f.sources_low; targets_low = f.targets_low }
 
-at_fine : (l : Limits) (s : Size) (rest : List (List ℕ)) → FineSize l s → Fine l (at_size s rest)
+at_fine : (l : Limits) (s : Result Size) (rest : List (List ℕ)) → FineSize l s → Fine l (at_size s rest)
 unfolding at_size FineSize Fine
-at_fine l (Refused k) rest f = f
-at_fine l (Is n m) rest f = table_fine l n m (entries n m rest) f (entries_fine n m rest)
+at_fine l (refused k) rest f = f
+at_fine l (done s) rest f = table_fine l s.n s.edges (entries s.n s.edges rest) f (entries_fine s.n s.edges rest)
 
 from_fine : (l : Limits) (ls : List (List ℕ)) → Fine l (from_size l ls)
 unfolding from_size Fine

@@ -1,33 +1,29 @@
 -- The Matrix Market exchange format in the narrower form of document 01, read line by line.
-use Rattle.std.specs.Prelude.{ℕ, zero, suc, ◌-◌, Bool, true, false, cond, not, ◌&&◌, ◌||◌, List, [], ◌∷◌, eqb, leb, ltb, length, get_or}
+use Rattle.std.specs.Prelude.{ℕ, zero, suc, ◌-◌, Bool, true, false, cond, not, ◌&&◌, ◌||◌, List, [], ◌∷◌, eqb, leb, ltb, length, get_or, Option, Some, None, Ok, Err, Result as Answer}
 use Rattle.graph.specs.Limits.{too_many_vertices, too_many_edges, wrong_length, first_line_faulty, size_line_faulty, entry_faulty}
+use Rattle.graph.specs.Reasons.{number_of}
 use Rattle.graph.specs.Refusal.{given, ◌or◌}
+use Rattle.graph.specs.declared.refusal.Refusal.{Refusal}
 use Rattle.lines.specs.Pieces.{lines}
 use Rattle.lines.specs.Numbers.{Content, faulty, numbers, longest_line, content}
-use Rattle.text.specs.declared.entries.Entry.{Entry}
-use Rattle.text.specs.declared.entries.Entry.TheVariants.{Blank, Edge, Faulty}
-use Rattle.text.specs.declared.header.Size.{Size}
-use Rattle.text.specs.declared.header.Size.TheVariants.{Is, Refused}
+use Rattle.text.specs.declared.entries.Edge.{Edge}
+use Rattle.text.specs.declared.header.Limits.{Limits}
+use Rattle.text.specs.declared.Size.{Size}
 
 -- what a reading comes to: a refusal number, or what was read
 pub data Result (A : Type 0) : Type 0 where
   refused : ℕ → Result A
   done : A → Result A
 
--- an edge, and a table of n vertices
-pub record Arrow : Type 0 where
-  pub source : ℕ
-  pub target : ℕ
+-- what a call says, as a reading
+abbrev pub as_reading : {A : Type 0} → Answer A Refusal → Result A
+as_reading (Ok a) = done a
+as_reading (Err r) = refused (number_of r)
 
+-- a table of n vertices
 pub record Table : Type 0 where
   pub n : ℕ
-  pub edges : List Arrow
-
--- the most vertices and edges that are taken, and the room for edges
-pub record Limits : Type 0 where
-  pub most_vertices : ℕ
-  pub most_edges : ℕ
-  pub room : ℕ
+  pub edges : List Edge
 
 -- two lists of bytes are the same
 unfoldable pub same : List ℕ → List ℕ → Bool
@@ -71,55 +67,55 @@ size_refusal l rows columns entries =
     or given wrong_length (ltb l.room entries)
 
 -- n vertices and a count of entries, unless a test gives a number
-unfoldable pub sized : ℕ → ℕ → ℕ → Size
-sized k n count = cond (eqb k 0) (Is n count) (Refused k)
+unfoldable pub sized : ℕ → ℕ → ℕ → Result Size
+sized k n count = cond (eqb k 0) (done (record { n = n; edges = count })) (refused k)
 
 -- the size line: rows, columns, entries
-unfoldable pub size_of : Limits → Content → Size
+unfoldable pub size_of : Limits → Content → Result Size
 size_of l (numbers (rows ∷ columns ∷ entries ∷ [])) = sized (size_refusal l rows columns entries) rows entries
-size_of l (numbers []) = Refused size_line_faulty
-size_of l (numbers (a ∷ [])) = Refused size_line_faulty
-size_of l (numbers (a ∷ b ∷ [])) = Refused size_line_faulty
-size_of l (numbers (a ∷ b ∷ c ∷ d ∷ vs)) = Refused size_line_faulty
-size_of l faulty = Refused size_line_faulty
+size_of l (numbers []) = refused size_line_faulty
+size_of l (numbers (a ∷ [])) = refused size_line_faulty
+size_of l (numbers (a ∷ b ∷ [])) = refused size_line_faulty
+size_of l (numbers (a ∷ b ∷ c ∷ d ∷ vs)) = refused size_line_faulty
+size_of l faulty = refused size_line_faulty
 
 -- 1 ≤ i ≤ n
 unfoldable pub inside : ℕ → ℕ → Bool
 inside n i = leb 1 i && leb i n
 
 -- a line after the size line: blank, or entry `i j`, the edge from i - 1 to j - 1
-unfoldable pub entry_of : ℕ → Content → Entry
-entry_of n (numbers []) = Blank
-entry_of n (numbers (i ∷ j ∷ [])) = cond (inside n i && inside n j) (Edge (i - 1) (j - 1)) Faulty
-entry_of n (numbers (a ∷ [])) = Faulty
-entry_of n (numbers (a ∷ b ∷ c ∷ vs)) = Faulty
-entry_of n faulty = Faulty
+unfoldable pub entry_of : ℕ → Content → Result (Option Edge)
+entry_of n (numbers []) = done None
+entry_of n (numbers (i ∷ j ∷ [])) = cond (inside n i && inside n j) (done (Some (record { source = i - 1; target = j - 1 }))) (refused entry_faulty)
+entry_of n (numbers (a ∷ [])) = refused entry_faulty
+entry_of n (numbers (a ∷ b ∷ c ∷ vs)) = refused entry_faulty
+entry_of n faulty = refused entry_faulty
 
 -- an edge before those that follow
-unfoldable pub with_edge : Arrow → Result (List Arrow) → Result (List Arrow)
+unfoldable pub with_edge : Edge → Result (List Edge) → Result (List Edge)
 with_edge a (refused k) = refused k
 with_edge a (done es) = done (a ∷ es)
 
 -- what a line comes to where k entries are still to come
-unfoldable pub at_entry : Entry → ℕ → (ℕ → Result (List Arrow)) → Result (List Arrow)
-at_entry Blank k after = after k
-at_entry Faulty k after = refused entry_faulty
-at_entry (Edge s t) zero after = refused entry_faulty
-at_entry (Edge s t) (suc k) after = with_edge (record { source = s; target = t }) (after k)
+unfoldable pub at_entry : Result (Option Edge) → ℕ → (ℕ → Result (List Edge)) → Result (List Edge)
+at_entry (done None) k after = after k
+at_entry (refused j) k after = refused j
+at_entry (done (Some a)) zero after = refused entry_faulty
+at_entry (done (Some a)) (suc k) after = with_edge a (after k)
 
 -- k entries of n vertices; a missing line counts as standing after the last
-unfoldable pub entries : ℕ → ℕ → List (List ℕ) → Result (List Arrow)
+unfoldable pub entries : ℕ → ℕ → List (List ℕ) → Result (List Edge)
 entries n k [] = cond (eqb k 0) (done []) (refused entry_faulty)
 entries n k (line ∷ rest) = at_entry (entry_of n (content line)) k (λ j. entries n j rest)
 
 -- the table of n vertices with those edges
-unfoldable pub as_table : ℕ → Result (List Arrow) → Result Table
+unfoldable pub as_table : ℕ → Result (List Edge) → Result Table
 as_table n (refused k) = refused k
 as_table n (done es) = done (record { n = n; edges = es })
 
-unfoldable pub at_size : Size → List (List ℕ) → Result Table
-at_size (Refused k) rest = refused k
-at_size (Is n count) rest = as_table n (entries n count rest)
+unfoldable pub at_size : Result Size → List (List ℕ) → Result Table
+at_size (refused k) rest = refused k
+at_size (done s) rest = as_table s.n (entries s.n s.edges rest)
 
 -- the size line and the lines after it
 unfoldable pub from_size : Limits → List (List ℕ) → Result Table

@@ -1,96 +1,58 @@
 -- What the steps of the reader promise.
-use Rattle.std.specs.Prelude.{ℕ, zero, suc, ◌+◌, ◌-◌, ◌≤◌, ◌≡◌, Bool, true, false, List, [], ◌∷◌, ◌++◌, map, length, take, drop, set}
+use Rattle.std.specs.Prelude.{ℕ, ◌≤◌, ◌≡◌, List, [], ◌∷◌, ◌++◌, map, length, drop, Option, Some, None, Result as Answer, Ok, Err}
+use Rattle.std.specs.Borrow.{Bor}
+use Rattle.graph.specs.Reasons.{number_of}
+use Rattle.graph.specs.declared.refusal.Refusal.{Refusal}
 use Rattle.lines.specs.Pieces.{lines}
-use Rattle.lines.specs.declared.pieces.Piece.{Piece}
-use Rattle.lines.specs.declared.pieces.Piece.TheVariants.{At, None}
-use Rattle.text.specs.declared.entries.Entry.{Entry}
-use Rattle.text.specs.declared.entries.Entry.TheVariants.{Blank, Edge, Faulty}
-use Rattle.text.specs.declared.entries.Left.{Left}
-use Rattle.text.specs.declared.entries.Left.TheVariants.{Is, Faulty as TooMany}
+use Rattle.text.specs.declared.entries.Edge.{Edge}
 use Rattle.text.specs.declared.header.Head.{Head}
-use Rattle.text.specs.declared.header.Head.TheVariants.{Is as HeadIs, Refused}
-use Rattle.text.specs.Market.{Result, refused, done, Arrow, Limits, pass_over, entries, as_table, market}
+use Rattle.text.specs.declared.header.Limits.{Limits}
+use Rattle.text.specs.declared.Size.{Size}
+use Rattle.text.specs.Market.{Result, refused, done, pass_over, entries, as_table, market}
 
-abbrev pub limits : ℕ → ℕ → ℕ → Limits
-limits most_vertices most_edges room = record { most_vertices = most_vertices; most_edges = most_edges; room = room }
+-- the size line and the lines past it, or that there is none
+unfoldable pub SizeLine : List (List ℕ) → Option (Bor (List ℕ)) → List (List ℕ) → Type 0
+SizeLine ls None rest = pass_over ls ≡ []
+SizeLine ls (Some line) rest = pass_over ls ≡ line.now ∷ rest
 
--- the size line's bounds, or that there is none
-pub record FoundLine (text : List ℕ) (at start end next : ℕ) : Type 0 where
-  pub order : start ≤ end
-  pub ends : end ≤ length text
-  pub within : next ≤ length text
-  pub rest : pass_over (lines (drop at text)) ≡ take (end - start) (drop start text) ∷ lines (drop next text)
+-- the header has been read, and the entries start at the rest
+pub record Begun (l : Limits) (text : List ℕ) (size : Size) (rest : List ℕ) : Type 0 where
+  pub fits : size.edges ≤ l.room
+  pub comes_to : market l text ≡ as_table size.n (entries size.n size.edges (lines rest))
 
-unfoldable pub SizeLine : List ℕ → ℕ → Piece → Type 0
-SizeLine text at None = pass_over (lines (drop at text)) ≡ []
-SizeLine text at (At start end next) = FoundLine text at start end next
-
--- the header has been read, and the entries start at next
-pub record Begun (l : Limits) (text : List ℕ) (n count next : ℕ) : Type 0 where
-  pub fits : count ≤ l.room
-  pub within : next ≤ length text
-  pub rest : market l text ≡ as_table n (entries n count (lines (drop next text)))
-
-unfoldable pub HeadSaid : Limits → List ℕ → Head → Type 0
-HeadSaid l text (Refused k) = market l text ≡ refused k
-HeadSaid l text (HeadIs n count next) = Begun l text n count next
+unfoldable pub HeadSaid : Limits → List ℕ → Answer Head Refusal → Type 0
+HeadSaid l text (Err r) = market l text ≡ refused (number_of r)
+HeadSaid l text (Ok h) = Begun l text h.size h.rest.now
 
 -- the entries have been read too
-pub record Judged (l : Limits) (text : List ℕ) (n count next : ℕ) : Type 0 where
-  pub edges : List Arrow
-  pub begun : Begun l text n count next
-  pub reads : entries n count (lines (drop next text)) ≡ done edges
+pub record Judged (l : Limits) (text : List ℕ) (size : Size) (rest : List ℕ) : Type 0 where
+  pub edges : List Edge
+  pub begun : Begun l text size rest
+  pub reads : entries size.n size.edges (lines rest) ≡ done edges
 
-unfoldable pub JudgeSaid : Limits → List ℕ → Head → Type 0
-JudgeSaid l text (Refused k) = market l text ≡ refused k
-JudgeSaid l text (HeadIs n count next) = Judged l text n count next
+unfoldable pub JudgeSaid : Limits → List ℕ → Answer Head Refusal → Type 0
+JudgeSaid l text (Err r) = market l text ≡ refused (number_of r)
+JudgeSaid l text (Ok h) = Judged l text h.size h.rest.now
 
-unfoldable pub is_done : {A : Type 0} → Result A → Bool
-is_done (refused k) = false
-is_done (done a) = true
-
--- how many entries are still to come after a line
-unfoldable pub left_after : Entry → ℕ → Left
-left_after Blank k = Is k
-left_after Faulty k = TooMany
-left_after (Edge s t) zero = TooMany
-left_after (Edge s t) (suc k) = Is k
-
--- an edge at place k of the table; a blank line changes nothing
-unfoldable pub place_after : Entry → ℕ → ℕ
-place_after (Edge s t) k = k + 1
-place_after Blank k = k
-place_after Faulty k = k
-
-unfoldable pub sources_after : Entry → ℕ → List ℕ → List ℕ
-sources_after (Edge s t) k xs = set xs k s
-sources_after Blank k xs = xs
-sources_after Faulty k xs = xs
-
-unfoldable pub targets_after : Entry → ℕ → List ℕ → List ℕ
-targets_after (Edge s t) k xs = set xs k t
-targets_after Blank k xs = xs
-targets_after Faulty k xs = xs
-
-pub record Put (e : Entry) (k : ℕ) (s t : List ℕ) (r : ℕ) (s' t' : List ℕ) : Type 0 where
-  pub place : r ≡ place_after e k
-  pub sources : s' ≡ sources_after e k s
-  pub targets : t' ≡ targets_after e k t
+-- what a reading comes to, without what was read
+unfoldable pub only_judged : {A : Type 0} → Result A → Result (Unit {0})
+only_judged (refused k) = refused k
+only_judged (done a) = done tt
 
 -- a column with the edges at its front, the rest as it was
-abbrev pub column : (Arrow → ℕ) → List Arrow → List ℕ → List ℕ
+abbrev pub column : (Edge → ℕ) → List Edge → List ℕ → List ℕ
 column end es xs = map end es ++ drop (length es) xs
 
-pub record FillAsk (text : List ℕ) (at n count : ℕ) (s t : List ℕ) : Type 0 where
-  pub edges : List Arrow
-  pub reads : entries n count (lines (drop at text)) ≡ done edges
-  pub room_s : count ≤ length s
-  pub room_t : count ≤ length t
+pub record FillAsk (text : List ℕ) (size : Size) (s t : List ℕ) : Type 0 where
+  pub edges : List Edge
+  pub reads : entries size.n size.edges (lines text) ≡ done edges
+  pub room_s : size.edges ≤ length s
+  pub room_t : size.edges ≤ length t
 
-unfoldable pub edges_of : Result (List Arrow) → List Arrow
+unfoldable pub edges_of : Result (List Edge) → List Edge
 edges_of (refused k) = []
 edges_of (done es) = es
 
-pub record Filled (text : List ℕ) (at n count : ℕ) (s t s' t' : List ℕ) : Type 0 where
-  pub sources : s' ≡ column (λ a. a.source) (edges_of (entries n count (lines (drop at text)))) s
-  pub targets : t' ≡ column (λ a. a.target) (edges_of (entries n count (lines (drop at text)))) t
+pub record Filled (text : List ℕ) (size : Size) (s t s' t' : List ℕ) : Type 0 where
+  pub sources : s' ≡ column (λ a. a.source) (edges_of (entries size.n size.edges (lines text))) s
+  pub targets : t' ≡ column (λ a. a.target) (edges_of (entries size.n size.edges (lines text))) t

@@ -9,10 +9,11 @@ use mathlib.Core.List.{List}
 use lib.ListN.{get_or, set, length-set}
 use lib.Seq.{get_or-set_same, get_or-set_other}
 use lib.Dec.{eqb, ltb}
-use borrow.Author.Tests.{lt-ltb, le-ltb}
+use borrow.Author.Tests.{lt-ltb, le-ltb, eq-eqb, ne_eqb}
 use Rattle.graph.specs.Sets.{bit}
 use Rattle.memory.specs.Decomposer.{col, ord, nxt, chains_at, order_at}
 use Rattle.prune.specs.Trim.{hued}
+use Rattle.sets.specs.Changes.{Added}
 use Rattle.trim.specs.Stages.{Nearer, StringAsk, From, Strung, Kept, Collected}
 
 -- THE CHAIN, FROM ITS END
@@ -69,6 +70,13 @@ ltb_more v i o = elim (dec_lt v i) as (λ _. ltb v (i + 1) ≡ ltb v i) [
   | yes h ↦ lt-ltb v (i + 1) (omega arith) ∙ sym (lt-ltb v i h)
   | no h ↦ le-ltb v (i + 1) (omega arith) ∙ sym (le-ltb v i (omega arith))
 ]
+
+module _ {b v q : ℕ} {w r : List ℕ} where
+  pub kept_added : {r' : List ℕ} → Added v r r' → col b w v ≡ q → Kept b v q w r r'
+  kept_added d e = record { long = d.long; here = λ _. rw (eq-eqb _ _ e) d.here; else = d.else }
+
+  pub kept_none : (col b w v ≡ q → ⊥) → Kept b v q w r r
+  kept_none o = record { long = refl; here = λ z. rw (ne_eqb _ _ o) z; else = λ u o. refl }
 
 module _ {b q : ℕ} {w r₀ : List ℕ} where
   pub collected_none : ((v : ℕ) → bit r₀ v ≡ 0) → Collected 0 b q w r₀ r₀

@@ -17,8 +17,8 @@ use Rattle.graph.proofs.Masks.{table_full, refusal_full}
 use Rattle.graph.proofs.Trim.{core_is}
 use Rattle.sets.proofs.Sizes.{members_in, members_out}
 use Rattle.trim.specs.Promise.{Call, refusal_on, collection, bare, left_of, PromiseOn, Promise}
-use Rattle.trim.specs.declared.Answer.{Answer}
-use Rattle.trim.specs.declared.Answer.TheVariants.{Done, Refused}
+use Rattle.std.proofs.Common.{Result, Ok, Err}
+use Rattle.graph.specs.declared.refusal.Refusal.{Refusal}
 
 -- what trimming leaves does not depend on how the sets are given
 greatest_same : {g : Graph} {A B K L : Part} → ((v : ℕ) → A v ↔ B v) → ((v : ℕ) → K v ↔ L v) → IsCore g A K → IsCore g B L
@@ -28,7 +28,7 @@ greatest_same a k i = record {
   greatest = λ X s t v x. (k v).0 (i.greatest X (λ u z. (a u).1 (s u z)) t v x);
 }
 
-module _ (c : Call) (r w ws : List ℕ) (k : ℕ) (p : Promise c r w ws (Done k)) where
+module _ (c : Call) (r w ws : List ℕ) (k : ℕ) (p : Promise c r w ws (Ok k)) where
   computed : IsCore (collection c) (part (members c.n c.part)) (part (mark (left_of (collection c) c)))
   computed = core_is (collection c) (members c.n c.part) (λ v t. (members_out c.n c.part v t).0)
 
@@ -46,9 +46,9 @@ module _ (c : Call) (r w ws : List ℕ) (k : ℕ) (p : Promise c r w ws (Done k)
   left_is = greatest_same (λ v. (members_out c.n c.part v, members_in c.n c.part v)) (λ v. (marked v, set_marked v)) computed
 
 -- a promise reads kinds and mask by its graph and its number alone
-bared : {k : ℕ} {g : Graph} (c : Call) (r w ws : List ℕ) (a : Answer) → PromiseOn k g c r w ws a → PromiseOn k g (bare c) r w ws a
+bared : {k : ℕ} {g : Graph} (c : Call) (r w ws : List ℕ) (a : Result ℕ Refusal) → PromiseOn k g c r w ws a → PromiseOn k g (bare c) r w ws a
 unfolding refusal_on
-bared c r w ws (Done k) p =
+bared c r w ws (Ok k) p =
     let x = p.gives in
     record {
       refusal = p.refusal;
@@ -62,7 +62,7 @@ bared c r w ws (Done k) p =
         words = x.words;
       };
     }
-bared c r w ws (Refused k) p =
+bared c r w ws (Err k) p =
     let x = p.gives in
     record {
       refusal = p.refusal;
@@ -70,7 +70,7 @@ bared c r w ws (Refused k) p =
     }
 
 -- with kinds from 0 to 7 and the full mask: what is promised of the table without kinds
-pub trim_full : (c : Call) (r w ws : List ℕ) (a : Answer) → Kinds (length c.sources) c.kinds → c.mask ≡ full_mask → Promise c r w ws a
+pub trim_full : (c : Call) (r w ws : List ℕ) (a : Result ℕ Refusal) → Kinds (length c.sources) c.kinds → c.mask ≡ full_mask → Promise c r w ws a
     → PromiseOn (plain_refusal c.n c.sources c.targets) (graph c.n c.sources c.targets) (bare c) r w ws a
 trim_full c r w ws a k e p =
     bared c r w ws a

@@ -1,5 +1,5 @@
 -- Trimming as callers see it.
-use Rattle.std.specs.Prelude.{ℕ, ◌≤◌, ◌≡◌, Bool, cond, ◌||◌, List, [], length}
+use Rattle.std.specs.Prelude.{ℕ, ◌≤◌, ◌≡◌, Bool, cond, ◌||◌, List, [], Result, Ok, Err, length}
 use Rattle.graph.specs.Limits.{numbers_needed, words_needed, wrong_length, memory_short}
 use Rattle.graph.specs.Numbers.{many, mark}
 use Rattle.graph.specs.Graph.{Graph, table}
@@ -8,8 +8,9 @@ use Rattle.graph.specs.Sets.{bit, members}
 use Rattle.memory.specs.Memory.{Zeroed}
 use Rattle.graph.specs.Refusal.{given, ◌or◌, table_refusal, lacking}
 use Rattle.sets.specs.Sizes.{ill_sized, Words}
-use Rattle.trim.specs.declared.Answer.{Answer}
-use Rattle.trim.specs.declared.Answer.TheVariants.{Done, Refused}
+use Rattle.graph.specs.Reasons.{number_of, said}
+use Rattle.graph.specs.declared.refusal.Refusal.{Refusal}
+use Rattle.graph.specs.declared.table.Table.{Table}
 
 -- what trimming is given
 pub record Call : Type 0 where
@@ -22,6 +23,20 @@ pub record Call : Type 0 where
   pub left : List ℕ
   pub numbers : List ℕ
   pub words : List ℕ
+
+-- the call of a lent table
+abbrev pub call_of : Table → (part left numbers words : List ℕ) → Call
+call_of t part left numbers words = record {
+  n = t.n;
+  sources = t.sources.now;
+  targets = t.targets.now;
+  kinds = t.kinds.now;
+  mask = t.mask;
+  part = part;
+  left = left;
+  numbers = numbers;
+  words = words;
+}
 
 -- k, the number by which the table's check refuses; if it is 0, the first of 5, 6 that applies, else 0
 unfoldable pub refusal_on : ℕ → Call → ℕ
@@ -56,11 +71,6 @@ bare c = record {
 abbrev pub left_of : Graph → Call → List Bool
 left_of g c = core g (members c.n c.part)
 
--- the number of an answer
-abbrev pub number : Answer → ℕ
-number (Done vertices) = 0
-number (Refused k) = k
-
 -- done: the set of what is left, bits at n and above zero, its size, and the working memory
 pub record Finished (g : Graph) (c : Call) (r w ws : List ℕ) (k : ℕ) : Type 0 where
   pub long : length r ≡ length c.left
@@ -79,14 +89,14 @@ pub record Untouched (c : Call) (r w ws : List ℕ) (k : ℕ) : Type 0 where
   pub words : ws ≡ c.words
 
 -- the values of an answer, and the final contents of what was lent
-abbrev pub Gives : Graph → Call → List ℕ → List ℕ → List ℕ → Answer → Type 0
-Gives g c r w ws (Done k) = Finished g c r w ws k
-Gives g c r w ws (Refused k) = Untouched c r w ws k
+abbrev pub Gives : Graph → Call → List ℕ → List ℕ → List ℕ → Result ℕ Refusal → Type 0
+Gives g c r w ws (Ok k) = Finished g c r w ws k
+Gives g c r w ws (Err k) = Untouched c r w ws (number_of k)
 
 -- what is promised of the graph g, whose table's check gives k
-pub record PromiseOn (k : ℕ) (g : Graph) (c : Call) (r w ws : List ℕ) (a : Answer) : Type 0 where
-  pub refusal : number a ≡ refusal_on k c
+pub record PromiseOn (k : ℕ) (g : Graph) (c : Call) (r w ws : List ℕ) (a : Result ℕ Refusal) : Type 0 where
+  pub refusal : said a ≡ refusal_on k c
   pub gives : Gives g c r w ws a
 
-abbrev pub Promise : Call → List ℕ → List ℕ → List ℕ → Answer → Type 0
+abbrev pub Promise : Call → List ℕ → List ℕ → List ℕ → Result ℕ Refusal → Type 0
 Promise c = PromiseOn (table_refusal c.n c.sources c.targets c.kinds) (collection c) c

@@ -40,10 +40,6 @@ pub record Strung (n b q i h : ℕ) (w w' : List ℕ) : Type 0 where
   pub high : (j : ℕ) → b + 10 * n + 2 ≤ j → get_or w' j 0 ≡ get_or w j 0
   pub long : length w' ≡ length w
 
-pub record KeepAsk (b v : ℕ) (w r : List ℕ) : Type 0 where
-  pub room : b + v < length w
-  pub words : v < length r * 64
-
 -- v, which was not in the set, is in it if it has the colour q; no other bit has changed
 pub record Kept (b v q : ℕ) (w r r' : List ℕ) : Type 0 where
   pub long : length r' ≡ length r

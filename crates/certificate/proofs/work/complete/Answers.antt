@@ -2,16 +2,16 @@ use Rattle.certificate.proofs.Working.{enter_ask, leave_ask, ranks_ask, complete
 use Rattle.certificate.proofs.work.complete.Goals as goal
 
 pub entries-requires : goal.entries-requires
-entries-requires c = search enter_ask
+entries-requires c = enter_ask c.requires
 
 pub entries-requires-2 : goal.entries-requires-2
-entries-requires-2 c = search leave_ask
+entries-requires-2 c = leave_ask _ c.requires c.entries.ensures c.turned.ensures
 
 pub ranks-requires : goal.ranks-requires
-ranks-requires c = ranks_ask c.args.mask c.requires c.entries.ensures c.entries-2.ensures
+ranks-requires c = ranks_ask _ c.requires c.entries.ensures c.turned.ensures c.entries-2.ensures
 
 pub returns : goal.returns
-returns c = search complete_end
+returns c = complete_end _ c.requires c.entries.ensures c.turned.ensures c.entries-2.ensures c.ranks.ensures
 
 pub shape_of-w : goal.shape_of-w
 shape_of-w c = (returns c).beyond.long

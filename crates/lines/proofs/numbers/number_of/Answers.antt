@@ -1,47 +1,36 @@
-use Prim.Native.Nat.{◌<◌}
-use native.Mathlib.Omega.{arith}
+use Rattle.std.proofs.Common.{◌<◌, ◌∙◌, sym, arith}
 use Rattle.lines.proofs.Words.{number_none, number_long, digits_none, digits_end, digits_room, digits_low, digits_high, digits_step}
 use Rattle.lines.proofs.numbers.number_of.Goals as goal
+use Rattle.lines.proofs.numbers.number_of.Goals.{then-is_empty-via-then-is_empty, then-is_empty-via-else-is_empty+then-word-gt-MOST_DIGITS}
 
-pub returns-then-word-lt1 : goal.returns-then-word-lt1
-returns-then-word-lt1 c = search number_none
+pub returns-then-is_empty : goal.returns-then-is_empty
+returns-then-is_empty c =
+    elim c.then-is_empty.branch [
+      | then-is_empty-via-then-is_empty w ↦ number_none _ (sym c.is_empty.ensures ∙ w.if-is_empty.true)
+      | then-is_empty-via-else-is_empty+then-word-gt-MOST_DIGITS w ↦ number_long _ w.if-word-gt-MOST_DIGITS.true
+    ]
 
-pub returns-then-word-gt-MOST_DIGITS : goal.returns-then-word-gt-MOST_DIGITS
-returns-then-word-gt-MOST_DIGITS c = search number_long
+pub loop-b-init : goal.loop-b-init
+loop-b-init c = search digits_none
 
-pub loop-i-init : goal.loop-i-init
-loop-i-init c = search digits_none
+pub returns-in_default : goal.returns-in_default
+returns-in_default c = digits_low _ _ _ c.loop-b.invariant c.loop-b-test.true (omega arith)
 
-pub bounds-word-i : goal.bounds-word-i
-bounds-word-i c = omega arith
-
-pub returns-then-b-lt48 : goal.returns-then-b-lt48
-returns-then-b-lt48 c = search digits_low
-
-pub returns-then-b-gt57 : goal.returns-then-b-gt57
-returns-then-b-gt57 c = search digits_high
+pub returns-in_default-2 : goal.returns-in_default-2
+returns-in_default-2 c = digits_high _ _ _ c.loop-b.invariant c.loop-b-test.true (omega arith)
 
 pub overflow_mul-value : goal.overflow_mul-value
 overflow_mul-value c =
-    let room : c.loop-i.value < 100000000 = search digits_room in
+    let room : c.loop-b.value < 100000000 = digits_room _ _ _ c.loop-b.invariant c.loop-b-test.true c.if-word-gt-MOST_DIGITS.false in
     omega (arith, room)
-
-pub overflow_cast-value : goal.overflow_cast-value
-overflow_cast-value c = omega arith
 
 pub overflow_add-value : goal.overflow_add-value
 overflow_add-value c =
-    let room : c.loop-i.value < 100000000 = search digits_room in
-    omega (arith, room)
+    let room : c.loop-b.value < 100000000 = digits_room _ _ _ c.loop-b.invariant c.loop-b-test.true c.if-word-gt-MOST_DIGITS.false in
+    omega (arith, room, c.type_inv.word c.loop-b.b-index)
 
-pub overflow_add-i : goal.overflow_add-i
-overflow_add-i c = omega arith
-
-pub loop-i-smaller : goal.loop-i-smaller
-loop-i-smaller c = omega arith
-
-pub loop-i-preserved : goal.loop-i-preserved
-loop-i-preserved c = search digits_step
+pub loop-b-preserved : goal.loop-b-preserved
+loop-b-preserved c = rw c.from.ensures (digits_step _ _ _ c.loop-b.invariant c.loop-b-test.true (omega arith) (omega arith))
 
 pub returns : goal.returns
-returns c = search digits_end
+returns c = digits_end _ _ _ c.loop-b.invariant (sym c.is_empty.ensures ∙ c.if-is_empty.false) c.if-word-gt-MOST_DIGITS.false c.loop-b-test.false

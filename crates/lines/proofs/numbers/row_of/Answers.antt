@@ -1,27 +1,27 @@
-use Rattle.lines.proofs.Rows.{upto_none, upto_few, upto_end, upto_stop, upto_step, row_long}
-use Rattle.lines.proofs.Split.{piece_order, piece_ends, piece_less}
+use Rattle.std.proofs.Common.{◌∙◌, sym, ap}
+use Rattle.lines.specs.Answers.{pieces_of}
+use Rattle.lines.proofs.Rows.{upto_none, upto_few, upto_empty, upto_end, upto_stop, upto_step, row_long}
 use Rattle.lines.proofs.numbers.row_of.Goals as goal
 
 pub returns-then-line-gt-LONGEST_LINE : goal.returns-then-line-gt-LONGEST_LINE
 returns-then-line-gt-LONGEST_LINE c = search row_long
 
-pub loop-start-init : goal.loop-start-init
-loop-start-init c = search upto_none
+pub loop-word-init : goal.loop-word-init
+loop-word-init c = upto_none _ _ (ap pieces_of c.into_iter-word-iterator.ensures.into_iter_gives ∙ c.new-word-items.ensures.pieces)
 
-pub returns-in_default : goal.returns-in_default
-returns-in_default c = search upto_end
+pub and-found-requires : goal.and-found-requires
+and-found-requires c = search upto_few
 
-pub bytes-requires : goal.bytes-requires
-bytes-requires c = search (piece_order, piece_ends)
+pub returns-in_err-number_of : goal.returns-in_err-number_of
+returns-in_err-number_of c =
+    c.from_residual.ensures ∙ upto_stop _ c.if-line-gt-LONGEST_LINE.false _ _ c.loop-word.invariant _ _ c.in-Some.ensures.steps.0 (sym c.is_empty.ensures ∙ c.if-not-is_empty.true) _ c.number_of.ensures c.in_err-number_of.was
 
-pub add_word-requires : goal.add_word-requires
-add_word-requires c = search upto_few
+pub loop-word-preserved-then-not-is_empty : goal.loop-word-preserved-then-not-is_empty
+loop-word-preserved-then-not-is_empty c =
+    upto_step _ c.if-line-gt-LONGEST_LINE.false _ _ c.loop-word.invariant _ _ c.in-Some.ensures.steps.0 (sym c.is_empty.ensures ∙ c.if-not-is_empty.true) _ c.number_of.ensures _ c.in_ok-number_of.was _ c.and-found.ensures
 
-pub returns-in_default-add_word : goal.returns-in_default-add_word
-returns-in_default-add_word c = search upto_stop
+pub loop-word-preserved : goal.loop-word-preserved
+loop-word-preserved c = upto_empty _ c.if-line-gt-LONGEST_LINE.false _ _ c.loop-word.invariant _ _ c.in-Some.ensures.steps.0 (sym c.is_empty.ensures ∙ c.if-not-is_empty.false)
 
-pub loop-start-smaller : goal.loop-start-smaller
-loop-start-smaller c = search piece_less
-
-pub loop-start-preserved : goal.loop-start-preserved
-loop-start-preserved c = search upto_step
+pub returns : goal.returns
+returns c = upto_end _ c.if-line-gt-LONGEST_LINE.false _ _ c.loop-word.invariant c.in-None.ensures.steps.0.0

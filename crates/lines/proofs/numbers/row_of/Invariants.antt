@@ -1,10 +1,6 @@
-use Prim.Native.Nat.{◌-◌}
-use lib.ListN.{length}
+use Rattle.lines.specs.Answers.{pieces_of}
 use Rattle.lines.proofs.Rows.{Upto}
 use Rattle.lines.proofs.numbers.row_of.Given as goal
 
-abbrev pub invariant-loop-start : goal.invariant-loop-start
-invariant-loop-start l = Upto l.line l.found l.at
-
-abbrev pub decreases-loop-start : goal.decreases-loop-start
-decreases-loop-start l = length l.line - l.at
+abbrev pub invariant-loop-word : goal.invariant-loop-word
+invariant-loop-word l = Upto l.line l.found (pieces_of l.word-iterator)

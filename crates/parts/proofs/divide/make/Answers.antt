@@ -1,8 +1,9 @@
-use mathlib.Core.Logic.{inl, inr}
+use Rattle.std.proofs.Common.{inl, inr}
+use Rattle.sweep.proofs.Methods.{is_slice, is_split}
 use Rattle.parts.proofs.divide.make.Goals as goal
 
-pub returns-then-slicing-eq1 : goal.returns-then-slicing-eq1
-returns-then-slicing-eq1 c = λ e a. inr (c.if-slicing-eq1.true, c.prepare.ensures)
+pub returns-in-Split : goal.returns-in-Split
+returns-in-Split c = λ e a. inl (is_split c.args.method c.in-Split.is, (c.prune.result, c.prune.ensures e a.trim))
 
-pub returns : goal.returns
-returns c = λ e a. inl (c.if-slicing-eq1.false, (c.prune.result, c.prune.ensures e a.trim))
+pub returns-in-Slice : goal.returns-in-Slice
+returns-in-Slice c = λ e a. inr (is_slice c.args.method c.in-Slice.is, c.prepare.ensures)

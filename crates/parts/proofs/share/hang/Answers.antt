@@ -1,15 +1,10 @@
 use native.Mathlib.Omega.{arith}
 use mathlib.Core.Path.{refl}
 use mathlib.Core.Logic.{inl, inr}
-use Prim.Native.Nat.{◌+◌, ◌*◌}
-use lib.ListN.{get_or}
 use Rattle.parts.proofs.share.hang.Goals as goal
 
-pub overflow_cast-c : goal.overflow_cast-c
-overflow_cast-c c = omega (arith, c.slice_known-3-1.given (c.args.b + get_or c.args.w.now (c.args.b + 9 * c.args.n + 2 + c.args.i) 0))
-
-pub returns-then-c-n : goal.returns-then-c-n
-returns-then-c-n c = inl (c.if-c-n.true, refl, refl)
+pub returns-then-c-at : goal.returns-then-c-at
+returns-then-c-at c = inl (c.if-c-at.true, refl, refl)
 
 pub link-requires : goal.link-requires
 link-requires c = c.requires.link (omega arith)

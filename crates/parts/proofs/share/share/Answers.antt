@@ -1,14 +1,10 @@
 use native.Mathlib.Omega.{arith}
 use mathlib.Core.Path.{◌≡◌, refl}
-use Prim.Native.Nat.{◌+◌, ◌*◌}
 use Rattle.parts.proofs.Sharing.{share_start, next_of, hang_ask, share_step, share_here}
 use Rattle.parts.proofs.share.share.Goals as goal
 
 pub loop-i-init : goal.loop-i-init
 loop-i-init c = (omega (arith, c.requires.first.low), λ a t. refl, share_start c.requires)
-
-pub overflow_cast-y : goal.overflow_cast-y
-overflow_cast-y c = omega (arith, c.slice_known-in-loop-i-1.given (c.args.b + 2 * c.args.n + c.loop-i.i))
 
 pub hang-k-requires : goal.hang-k-requires
 hang-k-requires c =
@@ -29,8 +25,5 @@ loop-i-preserved c =
     let h = c.loop-i-test.true in
     ((next_of a l.2 h (l.1 a h)).most, λ a t. share_here a l.2 h (l.1 a h) t, share_step a l.2 h (l.1 a h) c.hang-k.ensures)
 
-pub shape_of-w : goal.shape_of-w
-shape_of-w c = c.loop-i.invariant.2.long
-
 pub returns : goal.returns
-returns c = let e : c.loop-i.i ≡ c.args.n = omega arith in rw e at c.loop-i.invariant.2
+returns c = let e : c.loop-i.i ≡ c.args.at.n = omega arith in rw e at c.loop-i.invariant.2

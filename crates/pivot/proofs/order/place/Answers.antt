@@ -8,4 +8,4 @@ pub returns-then-w-at-ne0 : goal.returns-then-w-at-ne0
 returns-then-w-at-ne0 c = again c.if-at-v.false c.if-w-at-ne0.true
 
 pub returns : goal.returns
-returns c = placed c.if-at-v.false c.if-w-at-ne0.false
+returns c = rw c.order.ensures (placed c.if-at-v.false c.if-w-at-ne0.false)

@@ -1,5 +1,4 @@
 use native.Mathlib.Omega.{arith}
-use Prim.Native.Nat.{◌+◌, ◌*◌}
 use mathlib.Core.Path.{refl}
 use Rattle.sweep.proofs.Sweeping.{sweep_none, next_is, sweep_turn, sweep_step, sweep_all}
 use borrow.Author.Rules.{rules}
@@ -7,9 +6,6 @@ use Rattle.sweep.proofs.chain.sweep.Goals as goal
 
 pub loop-i-init : goal.loop-i-init
 loop-i-init c = (refl, λ e a. sweep_none a)
-
-pub overflow_cast-y : goal.overflow_cast-y
-overflow_cast-y c = omega (arith, c.type_inv.w (c.args.at.base + 2 * c.args.at.n + c.loop-i.i))
 
 pub turn-top-requires : goal.turn-top-requires
 turn-top-requires c = (c.requires.0, sweep_turn c.requires.1 (c.loop-i.invariant.1 c.requires.0 c.requires.1) c.loop-i-test.true)
@@ -24,9 +20,6 @@ loop-i-preserved c =
     let l = c.loop-i.invariant.1 in
     let t = c.loop-i-test.true in
     (search rules, λ e a. sweep_step a (l e a) t (c.turn-top.ensures e (sweep_turn a (l e a) t)))
-
-pub shape_of-w : goal.shape_of-w
-shape_of-w c = c.loop-i.invariant.0
 
 pub returns : goal.returns
 returns c = λ e a. sweep_all a (c.loop-i.invariant.1 e a) c.loop-i-test.false

@@ -1,14 +1,13 @@
 use Rattle.std.proofs.Common.{arith}
-use Rattle.split.proofs.Same.{top_le}
 use Rattle.sweep.proofs.Methods.{is_slice, is_split}
-use Rattle.sweep.proofs.Taking.{pivot_ask, slice_ask, take_split, take_slice}
+use Rattle.sweep.proofs.Taking.{take_room, pivot_ask, slice_ask, take_split, take_slice}
 use Rattle.sweep.proofs.chain.take.Goals as goal
 
 pub overflow_cast-top : goal.overflow_cast-top
-overflow_cast-top c = omega (arith, top_le c.requires.1.ready.stage, c.requires.1.ready.stage.tables.small)
+overflow_cast-top c = omega (arith, take_room c.requires.1)
 
 pub overflow_add-result : goal.overflow_add-result
-overflow_add-result c = omega (arith, top_le c.requires.1.ready.stage, c.requires.1.ready.stage.tables.small)
+overflow_add-result c = omega (arith, take_room c.requires.1)
 
 pub split-requires : goal.split-requires
 split-requires c = (c.requires.0, pivot_ask c.requires.1)

@@ -1,4 +1,4 @@
-use Rattle.std.proofs.Common.{◌∙◌, arith}
+use Rattle.std.proofs.Common.{arith}
 use Rattle.sweep.proofs.Drawing.{marks_few, marks_within, draw_pick, draw_done}
 use Rattle.sweep.proofs.drawn.turn.Goals as goal
 
@@ -15,4 +15,4 @@ pub returns : goal.returns
 returns c =
     let i = c.next-s.ensures in
     let j = c.select-p.ensures in
-    λ e a. draw_done a c.args.now.state (c.take.ensures.state ∙ i) j (c.take.ensures.picked e (draw_pick a c.args.now.state i j))
+    λ e a. rw c.take.ensures.state (draw_done a c.args.now.state i j (c.take.ensures.picked e (draw_pick a c.args.now.state i j)))

@@ -1,5 +1,4 @@
 use native.Mathlib.Omega.{arith}
-use Prim.Native.Nat.{◌+◌, ◌*◌}
 use Rattle.sweep.proofs.Marking.{mark_none, mark_next, enter_ask, mark_step, mark_all}
 use Rattle.sweep.proofs.set.mark.Goals as goal
 
@@ -16,9 +15,6 @@ loop-i-smaller c =
 
 pub loop-i-preserved : goal.loop-i-preserved
 loop-i-preserved c = λ a. mark_step a (c.loop-i.invariant a) c.loop-i-test.true c.enter-k.ensures
-
-pub shape_of-words : goal.shape_of-words
-shape_of-words c = omega (arith, (c.loop-i.invariant c.requires).words, c.requires.empty.words)
 
 pub returns : goal.returns
 returns c = mark_all c.requires (c.loop-i.invariant c.requires) c.loop-i-test.false

@@ -1,21 +1,22 @@
-use Rattle.lines.proofs.Split.{piece_order, piece_ends, piece_less}
-use Rattle.text.proofs.Edges.{filling_none, filling_end, filling_gap, filling_step}
+use Rattle.std.proofs.Common.{◌∙◌, sym, ap}
+use Rattle.lines.specs.Answers.{pieces_of}
+use Rattle.text.proofs.Edges.{filling_none, filling_end, filling_room_s, filling_room_t, filling_step, filling_blank}
 use Rattle.text.proofs.entries.fill.Goals as goal
 
-pub loop-k-init : goal.loop-k-init
-loop-k-init c = search filling_none
+pub loop-line-init : goal.loop-line-init
+loop-line-init c = filling_none _ _ _ _ c.requires _ (ap pieces_of c.into_iter-line-iterator.ensures.into_iter_gives ∙ c.lines-line-items.ensures.pieces)
 
-pub returns-in_default : goal.returns-in_default
-returns-in_default c = search filling_gap
+pub bounds-sources-k : goal.bounds-sources-k
+bounds-sources-k c = filling_room_s _ _ _ _ _ _ _ _ c.loop-line.invariant _ _ c.in-Some.ensures.steps.0 _ c.entry_of.ensures _ (sym c.unwrap_or.ensures ∙ c.in-Some-unwrap_or.is)
 
-pub bytes-requires : goal.bytes-requires
-bytes-requires c = search (piece_order, piece_ends)
+pub bounds-targets-k : goal.bounds-targets-k
+bounds-targets-k c = filling_room_t _ _ _ _ _ _ _ _ c.loop-line.invariant _ _ c.in-Some.ensures.steps.0 _ c.entry_of.ensures _ (sym c.unwrap_or.ensures ∙ c.in-Some-unwrap_or.is)
 
-pub loop-k-smaller : goal.loop-k-smaller
-loop-k-smaller c = search piece_less
+pub loop-line-preserved-in-Some-unwrap_or : goal.loop-line-preserved-in-Some-unwrap_or
+loop-line-preserved-in-Some-unwrap_or c = filling_step _ _ _ _ _ _ _ _ c.loop-line.invariant _ _ c.in-Some.ensures.steps.0 _ c.entry_of.ensures _ (sym c.unwrap_or.ensures ∙ c.in-Some-unwrap_or.is)
 
-pub loop-k-preserved : goal.loop-k-preserved
-loop-k-preserved c = search filling_step
+pub loop-line-preserved : goal.loop-line-preserved
+loop-line-preserved c = filling_blank _ _ _ _ _ _ _ _ c.loop-line.invariant _ _ c.in-Some.ensures.steps.0 _ c.entry_of.ensures (sym c.unwrap_or.ensures ∙ c.in_default.is)
 
 pub returns : goal.returns
-returns c = search filling_end
+returns c = filling_end _ _ _ _ _ _ _ _ c.loop-line.invariant c.in-None.ensures.steps.0.0

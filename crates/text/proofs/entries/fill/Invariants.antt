@@ -1,10 +1,6 @@
-use Prim.Native.Nat.{◌-◌}
-use lib.ListN.{length}
+use Rattle.lines.specs.Answers.{pieces_of}
 use Rattle.text.proofs.Edges.{Filling}
 use Rattle.text.proofs.entries.fill.Given as goal
 
-abbrev pub invariant-loop-k : goal.invariant-loop-k
-invariant-loop-k l = Filling l.text l.at l.n l.count l.initial.sources l.initial.targets l.place l.k l.sources l.targets
-
-abbrev pub decreases-loop-k : goal.decreases-loop-k
-decreases-loop-k l = length l.text - l.place
+abbrev pub invariant-loop-line : goal.invariant-loop-line
+invariant-loop-line l = Filling l.text l.size l.initial.sources l.initial.targets (pieces_of l.line-iterator) l.k l.sources l.targets

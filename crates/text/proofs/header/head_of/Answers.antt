@@ -1,24 +1,26 @@
-use Rattle.lines.proofs.Split.{piece_order, piece_ends}
-use Rattle.text.proofs.Head.{line_order, line_ends, head_none, head_first, head_missing, head_refused, head_is}
+use Rattle.std.proofs.Common.{ℕ, ◌∙◌, sym, ap}
+use Rattle.std.proofs.lemmas.Result.{err_from_is_err_and}
+use Rattle.lines.specs.Pieces.{split}
+use Rattle.text.proofs.Head.{head_none, head_first, head_missing, head_refused, head_is}
 use Rattle.text.proofs.header.head_of.Goals as goal
 
 pub returns-in_default : goal.returns-in_default
-returns-in_default c = search head_none
+returns-in_default c = head_none _ _ (sym c.lines-lines.ensures.pieces ∙ c.in_default.ensures.steps.0.0)
 
-pub bytes-requires : goal.bytes-requires
-bytes-requires c = search (piece_order, piece_ends)
-
-pub returns-then-not-same : goal.returns-then-not-same
-returns-then-not-same c = search head_first
+pub returns-then-ne : goal.returns-then-ne
+returns-then-ne c = head_first _ _ _ _ (sym c.lines-lines.ensures.pieces ∙ c.in-Some.ensures.steps.0) _ c.ne.ensures c.if-ne.true
 
 pub returns-in_default-size_line : goal.returns-in_default-size_line
-returns-in_default-size_line c = search head_missing
+returns-in_default-size_line c =
+    head_missing _ _ _ _ (sym c.lines-lines.ensures.pieces ∙ c.in-Some.ensures.steps.0) _ c.ne.ensures c.if-ne.false _ _ c.size_line.ensures.first c.in_default-size_line.is
 
-pub bytes-requires-2 : goal.bytes-requires-2
-bytes-requires-2 c = search (line_order, line_ends)
+pub returns-in_err-size : goal.returns-in_err-size
+returns-in_err-size c =
+    let p = err_from_is_err_and c.from_residual.result c.from_residual.ensures.1 in
+    rw (p.1, p.2)
+    (head_refused _ _ _ _ (sym c.lines-lines.ensures.pieces ∙ c.in-Some.ensures.steps.0) _ c.ne.ensures c.if-ne.false _ _ c.size_line.ensures.first _ c.in-Some-size_line.is _ c.size_of.ensures _ c.in_err-size.was)
 
-pub returns-in-Refused : goal.returns-in-Refused
-returns-in-Refused c = search head_refused
-
-pub returns-in-Is : goal.returns-in-Is
-returns-in-Is c = search head_is
+pub returns : goal.returns
+returns c =
+    head_is _ _ _ _ (sym c.lines-lines.ensures.pieces ∙ c.in-Some.ensures.steps.0) _ c.ne.ensures c.if-ne.false _ _ c.size_line.ensures.first _ c.in-Some-size_line.is _ c.size_of.ensures _ c.in_ok-size.was
+    (ap (λ (k : ℕ). split k c.size_line.new.lines.rest.now) (c.size_line.ensures.stop ∙ c.in-Some.ensures.steps.1 ∙ c.lines-lines.ensures.stop))

@@ -1,11 +1,10 @@
-use Rattle.text.proofs.Head.{comment_none, comment_long, comment_first}
+use Rattle.std.proofs.Common.{◌∙◌}
+use borrow.Author.Tests.{lt-leb}
+use Rattle.text.proofs.Head.{comment_long, comment_first}
 use Rattle.text.proofs.header.is_comment.Goals as goal
 
-pub returns-then-line-lt1 : goal.returns-then-line-lt1
-returns-then-line-lt1 c = search comment_none
+pub returns-then-line-le-LONGEST_LINE : goal.returns-then-line-le-LONGEST_LINE
+returns-then-line-le-LONGEST_LINE c = comment_first _ _ c.starts_with.ensures.value c.if-line-le-LONGEST_LINE.true
 
-pub returns-then-line-gt-LONGEST_LINE : goal.returns-then-line-gt-LONGEST_LINE
-returns-then-line-gt-LONGEST_LINE c = search comment_long
-
-pub returns : goal.returns
-returns c = search comment_first
+pub returns-else-line-le-LONGEST_LINE : goal.returns-else-line-le-LONGEST_LINE
+returns-else-line-le-LONGEST_LINE c = lt-leb _ _ c.if-line-le-LONGEST_LINE.false ∙ comment_long _ c.if-line-le-LONGEST_LINE.false

@@ -1,22 +1,12 @@
-use mathlib.Core.Path.{refl}
-use Rattle.lines.proofs.Split.{piece_order, piece_ends, piece_less}
+use Rattle.std.proofs.Common.{◌∙◌}
 use Rattle.text.proofs.Head.{pass_step, pass_stop, pass_end}
 use Rattle.text.proofs.header.size_line.Goals as goal
 
-pub loop-start-init : goal.loop-start-init
-loop-start-init c = refl
+pub returns-then-not-passed_over-clause-first : goal.returns-then-not-passed_over-clause-first
+returns-then-not-passed_over-clause-first c = pass_stop _ _ c.loop-line.invariant.0 _ _ c.in-Some.ensures.steps.0 _ c.passed_over.ensures c.if-not-passed_over.true
 
-pub returns-in_default : goal.returns-in_default
-returns-in_default c = search pass_end
+pub loop-line-preserved : goal.loop-line-preserved
+loop-line-preserved c = (pass_step _ _ c.loop-line.invariant.0 c.in-Some.line _ c.in-Some.ensures.steps.0 _ c.passed_over.ensures c.if-not-passed_over.false, c.in-Some.ensures.steps.1 ∙ c.loop-line.invariant.1)
 
-pub bytes-requires : goal.bytes-requires
-bytes-requires c = search (piece_order, piece_ends)
-
-pub returns-then-not-passed_over : goal.returns-then-not-passed_over
-returns-then-not-passed_over c = search pass_stop
-
-pub loop-start-smaller : goal.loop-start-smaller
-loop-start-smaller c = search piece_less
-
-pub loop-start-preserved : goal.loop-start-preserved
-loop-start-preserved c = search pass_step
+pub returns-clause-first : goal.returns-clause-first
+returns-clause-first c = pass_end _ _ c.loop-line.invariant.0 _ c.in_default.ensures.steps.0.0

@@ -1,12 +1,10 @@
-use mathlib.Core.Path.{◌≡◌}
-use Prim.Native.Nat.{◌-◌}
-use lib.ListN.{length, drop}
-use Rattle.lines.specs.Pieces.{lines}
+use Rattle.std.proofs.Common.{◌≡◌, length}
+use Rattle.lines.specs.Answers.{pieces_of}
 use Rattle.text.specs.Market.{pass_over}
 use Rattle.text.proofs.header.size_line.Given as goal
 
-abbrev pub invariant-loop-start : goal.invariant-loop-start
-invariant-loop-start l = pass_over (lines (drop l.at l.text)) ≡ pass_over (lines (drop l.place l.text))
+abbrev pub invariant-loop-line : goal.invariant-loop-line
+invariant-loop-line l = (pass_over (pieces_of l.initial.lines) ≡ pass_over (pieces_of l.lines)) × (l.lines.stop ≡ l.initial.lines.stop)
 
-abbrev pub decreases-loop-start : goal.decreases-loop-start
-decreases-loop-start l = length l.text - l.place
+abbrev pub decreases-loop-line : goal.decreases-loop-line
+decreases-loop-line l = length (pieces_of l.lines)
