@@ -6,7 +6,7 @@ use native.Mathlib.Omega.{arith}
 use mathlib.Core.Path.{◌≡◌, refl, sym, ◌∙◌, ap}
 use mathlib.Core.List.{List, [], ◌∷◌, ◌++◌, append_assoc}
 use lib.ListN.{length, get_or, drop, set, length-set, length-append, drop_of_length-le}
-use lib.Seq.{sets, length-sets, sets-eq, drop-cons}
+use lib.Seq.{sets, length-sets, sets-eq, drop-cons, paste, take-length}
 use Rattle.lines.specs.Pieces.{LF}
 use Rattle.labels.specs.File.{width, digits, decimal, line, label_lines, label_file, banner}
 use Rattle.labels.specs.Steps.{Measured, Written, Fits}
@@ -63,21 +63,9 @@ module _ (whole out₀ : List ℕ) (at i : ℕ) (out : List ℕ) where
   pub putting_one : (x : ℕ) (ys : List ℕ) → Putting (x ∷ ys) whole out₀ at i out → Putting ys whole out₀ at (i + 1) (set out i x)
   putting_one x ys p = record { place = omega (arith, p.place); left = rw (add-one i) p.left; long = length-set out i x ∙ p.long }
 
--- a copy, byte by byte
-pub copy_none : (xs out : List ℕ) (at : ℕ) → Putting xs xs out at (at + 0) out
-copy_none xs out at = rw (add-zero at) (putting_none xs out at)
-
-module _ (xs out₀ : List ℕ) (at i : ℕ) (out : List ℕ) (p : Putting (drop i xs) xs out₀ at (at + i) out) where
-  cons : i < length xs → Putting (get_or xs i 0 ∷ drop (i + 1) xs) xs out₀ at (at + i) out
-  cons h = rw (add-one i, ← drop-cons xs i 0 h) p
-
-  pub copy_step : i < length xs → Putting (drop (i + 1) xs) xs out₀ at (at + (i + 1)) (set out (at + i) (get_or xs i 0))
-  copy_step h =
-      let e : at + (i + 1) ≡ at + i + 1 = omega arith in
-      rw e (putting_one xs out₀ at (at + i) out (get_or xs i 0) (drop (i + 1) xs) (cons h))
-
-  pub copy_end : length xs ≤ i → Written xs out₀ at (at + i) out
-  copy_end h = putting_end xs out₀ at (at + i) out (rw (drop_of_length-le xs h) at p)
+-- a copy of all the bytes at once
+pub copied : (xs out : List ℕ) (at : ℕ) → Fits xs out at → (out' : List ℕ) → out' ≡ paste out at xs (length xs) → Written xs out at (at + length xs) out'
+copied xs out at f out' e = record { place = refl; bytes = e ∙ rw (take-length xs) (sym (sets-eq xs out at f.room)) }
 
 -- the digits that are still to come
 pub record Digiting (x : ℕ) (out₀ : List ℕ) (at power i : ℕ) (out : List ℕ) : Type 0 where

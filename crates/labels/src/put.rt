@@ -6,7 +6,7 @@ ghost use Rattle.labels.specs.Steps.{most_number, Measured, Written, Fits};
 use lines::pieces;
 
 // How many digits a number has, and the power of ten with one zero for each.
-#[derive(Clone, Copy)]
+#[derive(Clone, Copy, Debug, PartialEq, Eq)]
 pub struct Width {
     pub digits: usize,
     pub power: u64,
@@ -19,28 +19,22 @@ pub fn width_of(x: u64) -> Width
     let mut digits: usize = 1;
     let mut power: u64 = 10;
     while power <= x {
-        power = power * 10;
+        power *= 10;
         digits += 1;
     }
-    Width {
-        digits: digits,
-        power: power,
-    }
+    Width { digits, power }
 }
 
 pub fn put_bytes(bytes: &[u8], out: &mut [u8], at: usize) -> usize
     requires { Fits bytes.now out.old at }
     ensures { Written bytes.now out.old at result out.new }
 {
-    let mut i = 0;
-    while i < bytes.len() {
-        out[at + i] = bytes[i];
-        i += 1;
-    }
-    at + i
+    let end = at + bytes.len();
+    out[at..end].copy_from_slice(bytes);
+    end
 }
 
-// A number in decimal, the highest digit first.
+// A number in decimal, the highest digit first. The loop goes down the powers of ten, and the place follows it.
 pub fn put_number(x: u64, out: &mut [u8], at: usize) -> usize
     requires { (x ≤ most_number) × Fits (decimal x) out.old at }
     ensures { Written (decimal x) out.old at result out.new }
@@ -49,9 +43,9 @@ pub fn put_number(x: u64, out: &mut [u8], at: usize) -> usize
     let mut power = width.power;
     let mut i = at;
     while 1 < power {
-        power = power / 10;
+        power /= 10;
         let digit = x / power % 10;
-        out[i] = digit as u8 + 48;
+        out[i] = digit as u8 + b'0';
         i += 1;
     }
     i
@@ -62,8 +56,7 @@ pub fn put_label(label: u32, out: &mut [u8], at: usize) -> usize
     requires { Fits (line (decimal (label + 1))) out.old at }
     ensures { Written (line (decimal (label + 1))) out.old at result out.new }
 {
-    let x = label as u64;
-    let end = put_number(x + 1, out, at);
+    let end = put_number(u64::from(label) + 1, out, at);
     out[end] = pieces::LF;
     end + 1
 }
@@ -72,11 +65,9 @@ pub fn put_labels(label: &[u32], out: &mut [u8], at: usize) -> usize
     requires { Fits (label_lines label.now) out.old at }
     ensures { Written (label_lines label.now) out.old at result out.new }
 {
-    let mut v = 0;
     let mut i = at;
-    while v < label.len() {
-        i = put_label(label[v], out, i);
-        v += 1;
+    for l in label {
+        i = put_label(*l, out, i);
     }
     i
 }

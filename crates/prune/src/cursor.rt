@@ -1,18 +1,19 @@
 // Cursors: one for each vertex and direction; it goes along the vertex's neighbours once, past those that are not in the part.
+ghost use Rattle.std.specs.Prelude.{◌+◌};
 ghost use Rattle.graph.specs.Arrows.{SomeOf, EveryOf};
 ghost use Rattle.prune.specs.Cursor.{FindAsk, Found, LookAsk, Looked, AdvanceAsk, Advanced, TiedAsk, Tied};
 
-use memory::decomposer::{ENTERING, LEAVING};
 use memory::layout::{Direction, Layout};
 
-// The first place from i0 on, below t, whose neighbour has the colour q; t if there is none. The neighbours stand from eb on, the colours from b on.
-fn find(w: &[u32], eb: usize, b: usize, q: u32, i0: usize, t: usize) -> usize
-    requires { FindAsk eb b i0 t w.now }
-    ensures { Found eb b q i0 t w.now result }
+// The first place from i0 on, below t, whose neighbour has the colour q; t if there is none.
+fn find(w: &[u32], along: Direction, q: u32, i0: usize, t: usize) -> usize
+    requires { FindAsk (along.index + along.n + 1) along.base i0 t w.now }
+    ensures { Found (along.index + along.n + 1) along.base q i0 t w.now result }
 {
+    let others = along.index + along.n + 1;
     for i in i0..t {
-        let x = w[eb + i] as usize;
-        if w[b + x] == q {
+        let x = w[others + i] as usize;
+        if w[along.base + x] == q {
             return i;
         }
     }
@@ -25,14 +26,7 @@ fn look(w: &mut [u32], along: Direction, cb: usize, sb: usize, v: usize, q: u32)
     ensures { Looked along.n along.index cb sb along.base v q w.old w.new result }
 {
     let t = w[along.index + v + 1] as usize;
-    let i = find(
-        w,
-        along.index + along.n + 1,
-        along.base,
-        q,
-        w[sb + v] as usize,
-        t,
-    );
+    let i = find(w, along, q, w[sb + v] as usize, t);
     w[cb + v] = i as u32;
     i < t
 }
@@ -50,6 +44,5 @@ pub fn tied(w: &mut [u32], at: Layout, v: usize, ob: usize, ib: usize, q: u32) -
     requires { SomeOf at.n at.m (λ g. TiedAsk g at.base v ob ib q w.old) }
     ensures { EveryOf at.n at.m (λ g. TiedAsk g at.base v ob ib q w.old → Tied g at.base v q w.old w.new result) }
 {
-    look(w, at.forward(), at.base + LEAVING * at.n + 2, ob, v, q)
-        && look(w, at.backward(), at.base + ENTERING * at.n + 2, ib, v, q)
+    look(w, at.forward(), at.leaving(), ob, v, q) && look(w, at.backward(), at.entering(), ib, v, q)
 }

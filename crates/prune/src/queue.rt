@@ -4,7 +4,6 @@ ghost use Rattle.prune.specs.Trim.{TrimAsk};
 ghost use Rattle.prune.specs.Prune.{ExamineAsk, Examined, NearAsk, Near, BesideAsk, Beside, DrainAsk, Drained, Passed};
 
 use crate::cursor;
-use memory::decomposer::{CHAINS, ENTERING, LEAVING, ORDER};
 use memory::layout::{Direction, Layout};
 
 // v goes, if it is still in the part q and can be trimmed; ob and ib are as in cursor::tied. How many have gone.
@@ -25,8 +24,8 @@ fn around(w: &mut [u32], at: Layout, along: Direction, u: usize, q: u32, k0: usi
     requires { SomeOf at.n at.m (λ g. NearAsk g along.index at.base u q k0 w.old) }
     ensures { EveryOf at.n at.m (λ g. NearAsk g along.index at.base u q k0 w.old → Near g along.index at.base u q k0 w.old w.new result) }
 {
-    let leaving = at.base + LEAVING * at.n + 2;
-    let entering = at.base + ENTERING * at.n + 2;
+    let leaving = at.leaving();
+    let entering = at.entering();
     let i0 = w[along.index + u] as usize;
     let t = w[along.index + u + 1] as usize;
     let mut k = k0;
@@ -70,11 +69,13 @@ pub fn pass(w: &mut [u32], at: Layout, h: usize, q: u32) -> usize
 {
     let forward = at.forward().index;
     let backward = at.backward().index;
+    let order = at.order();
+    let chains = at.chains();
     let mut i = h;
     let mut k = 0;
     while i < at.n {
-        let v = w[at.base + ORDER * at.n + 2 + i] as usize;
-        let y = w[at.base + CHAINS * at.n + i] as usize;
+        let v = w[order + i] as usize;
+        let y = w[chains + i] as usize;
         k = examine(w, at, v, forward, backward, q, k);
         i = y;
     }

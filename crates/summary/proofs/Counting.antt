@@ -1,20 +1,28 @@
 -- Counting labels in blocks: what one more label, one more counter and one more block change.
-use Prim.Native.Nat.{ℕ, ◌+◌, ◌-◌, ◌≤◌, ◌<◌, max}
+use Prim.Native.Nat.{ℕ, ◌+◌, ◌-◌, ◌≤◌, ◌<◌}
 use native.Mathlib.Omega.{arith}
 use native.Mathlib.Decide.{ℕ_discrete}
-use mathlib.Core.Path.{◌≡◌, refl, ap, ◌∙◌}
+use mathlib.Core.Path.{◌≡◌, refl, sym, ap, ◌∙◌}
 use mathlib.Core.Bool.{Bool, true, false}
 use mathlib.Core.List.{List}
-use lib.ListN.{length, get_or, set, replicate, length-set, length-replicate, get_or-replicate}
-use lib.Seq.{get_or-set_same, get_or-set_other}
+use lib.ListN.{length, get_or, take, set, replicate, length-set, length-replicate, get_or-replicate}
+use lib.Seq.{get_or-set_same, get_or-set_other, get_or-take, length-take-le}
+use mir.Val.{bool_byte}
 use lib.Dec.{eqb, leb}
 use borrow.Author.Tests.{eq-eqb, ne_eqb}
 use Rattle.graph.specs.Limits.{most_vertices}
 use Rattle.graph.specs.Numbers.{many, most}
 use Rattle.graph.specs.Summary.{sharing}
 use Rattle.graph.proofs.Counts.{many_le}
-use Rattle.graph.proofs.Ranges.{many_ext, many_add, many_next, most_ext, most_add, most_next}
-use Rattle.summary.specs.Counts.{one, Low, Added, Upto, Fresh, Counted, Folded}
+use Rattle.graph.proofs.Ranges.{many_ext, many_add, many_next, most_ext, most_add}
+use native.Mathlib.Nat.{add-zero}
+use Rattle.summary.specs.declared.blocks.Totals.{Totals}
+use Rattle.summary.specs.Counts.{one, Low, Added, Upto, Fresh, Counted, Folded, totals_of, joined}
+
+-- a `bool` as a number
+pub byte_is : (b : Bool) → bool_byte b ≡ one b
+byte_is true = refl
+byte_is false = refl
 
 one_le : (b : Bool) → one b ≤ 1
 one_le true = omega arith
@@ -69,38 +77,47 @@ module _ {label : List ℕ} {low : ℕ} where
   unfolding sharing
   upto_all {k} h l u = let e : k ≡ length label = omega arith in record { shared = rw e at u.shared }
 
-pub folded_none : {f : ℕ → ℕ} → Folded f 0 0 0
+pub folded_none : {f : ℕ → ℕ} → Folded f 0 (record { rings = 0; largest = 0 })
 unfolding many most
 folded_none = record { rings_are = refl; largest_is = refl }
 
-pub folded_step : {f : ℕ → ℕ} {k r l : ℕ} (s g : ℕ) → s ≡ one (leb 2 (f k)) → g ≡ max (f k) l → Folded f k r l → Folded f (k + 1) (r + s) g
-folded_step {f} {k} s g p q h =
-    record {
-      rings_are = omega (arith, h.rings_are, many_next (λ j. leb 2 (f j)) k);
-      largest_is = omega (arith, h.largest_is, most_next f k);
-    }
-
-pub folded_same : {f g : ℕ → ℕ} {k r l : ℕ} → ((j : ℕ) → j < k → f j ≡ g j) → Folded f k r l → Folded g k r l
+pub folded_same : {f g : ℕ → ℕ} {k : ℕ} {t : Totals} → ((j : ℕ) → j < k → f j ≡ g j) → Folded f k t → Folded g k t
 folded_same {f} {g} {k} e h =
     record {
       rings_are = h.rings_are ∙ many_ext (λ j. leb 2 (f j)) (λ j. leb 2 (g j)) k (λ j i. ap (leb 2) (e j i));
       largest_is = h.largest_is ∙ most_ext f g k e;
     }
 
--- a block after what was counted before it
-pub folded_join : (f : ℕ → ℕ) {low k r l r' l' : ℕ} (g : ℕ) → g ≡ max l l' → Folded f low r l → Folded (λ j. f (low + j)) k r' l' → Folded f (low + k) (r + r') g
-folded_join f {low} {k} g q a b =
+-- one number by itself
+pub folded_one : (f : ℕ → ℕ) (x c : ℕ) → x ≡ f c → Folded (λ j. f (c + j)) 1 (totals_of x)
+unfolding many most
+folded_one f x c e =
+    let q : x ≡ f (c + 0) = e ∙ ap f (sym (add-zero c)) in
+    record { rings_are = rw q (omega arith); largest_is = rw q (omega arith) }
+
+-- numbers after those that were counted before them
+pub folded_join : (f : ℕ → ℕ) {low k : ℕ} {s t : Totals} → Folded f low s → Folded (λ j. f (low + j)) k t → Folded f (low + k) (joined s t)
+folded_join f {low} {k} a b =
     record {
       rings_are = omega (arith, a.rings_are, b.rings_are, many_add (λ j. leb 2 (f j)) low k);
       largest_is = omega (arith, a.largest_is, b.largest_is, most_add f low k);
     }
 
-pub folded_all : {f : ℕ → ℕ} {j k r l : ℕ} → k ≤ j → j ≤ k → Folded f j r l → Folded f k r l
+pub folded_step : (f : ℕ → ℕ) {k : ℕ} {s : Totals} (x : ℕ) → x ≡ f k → Folded f k s → Folded f (k + 1) (joined s (totals_of x))
+folded_step f {k} x e h = folded_join f h (folded_one f x k e)
+
+pub folded_all : {f : ℕ → ℕ} {j k : ℕ} {t : Totals} → k ≤ j → j ≤ k → Folded f j t → Folded f k t
 folded_all {f} {j} {k} h l a = let e : j ≡ k = omega arith in rw e at a
 
 -- at most as many rings as numbers
-pub folded_few : {f : ℕ → ℕ} {k r l : ℕ} → Folded f k r l → r ≤ k
+pub folded_few : {f : ℕ → ℕ} {k : ℕ} {t : Totals} → Folded f k t → t.rings ≤ k
 folded_few {f} {k} h = omega (arith, h.rings_are, many_le (λ j. leb 2 (f j)) k)
 
-pub folded_room : {f : ℕ → ℕ} {k r l : ℕ} (s : ℕ) → s ≡ one (leb 2 (f k)) → Folded f k r l → r + s ≤ k + 1
-folded_room {f} {k} s e h = omega (arith, folded_few h, one_le (leb 2 (f k)))
+pub one_few : (x : ℕ) → (totals_of x).rings ≤ 1
+one_few x = one_le (leb 2 x)
+
+-- the first k counters
+pub folded_front : (f : ℕ → ℕ) (counts : List ℕ) (k : ℕ) (t : Totals) → k ≤ length counts → ((j : ℕ) → j < length counts → get_or counts j 0 ≡ f j) → Folded (λ j. get_or (take k counts) j 0) (length (take k counts)) t → Folded f k t
+folded_front f counts k t h each a =
+    let l = length-take-le k counts h in
+    folded_same (λ j i. get_or-take k counts j 0 i ∙ each j (omega arith)) (rw l at a)

@@ -1,10 +1,11 @@
 -- What the summary of a label column promises.
-use Rattle.std.specs.Prelude.{ℕ, ◌≡◌, not, List, length, eqb, ltb}
+use Rattle.std.specs.Prelude.{ℕ, ◌≡◌, not, List, length, eqb, ltb, Result, IfOk}
 use Rattle.graph.specs.Limits.{most_vertices, too_many_vertices, wrong_length, vertex_outside}
+use Rattle.graph.specs.Reasons.{said}
+use Rattle.graph.specs.declared.refusal.Refusal.{Refusal}
 use Rattle.graph.specs.Refusal.{given, ◌or◌, outside}
 use Rattle.graph.specs.Summary.{summary}
-use Rattle.summary.specs.declared.Answer.{Answer}
-use Rattle.summary.specs.declared.Answer.TheVariants.{Done, Refused}
+use Rattle.summary.specs.declared.answer.Summary.{Summary}
 
 -- what the function is given
 pub record Call : Type 0 where
@@ -17,16 +18,7 @@ summary_refusal c =
     or given wrong_length (not (eqb (length c.label) c.n))
     or given vertex_outside (outside c.n c.label)
 
--- the number of an answer
-abbrev pub number : Answer → ℕ
-number (Done own rings largest) = 0
-number (Refused k) = k
-
--- the values of an answer: the three numbers, and none with a refusal
-abbrev pub Gives : Call → Answer → Type 0
-Gives c (Done own rings largest) = summary c.n c.label ≡ record { own = own; rings = rings; largest = largest }
-Gives c (Refused k) = k ≡ 0 → ⊥
-
-pub record Promise (c : Call) (a : Answer) : Type 0 where
-  pub refusal : number a ≡ summary_refusal c
-  pub gives : Gives c a
+-- the three numbers, and none with a refusal
+pub record Promise (c : Call) (a : Result Summary Refusal) : Type 0 where
+  pub refusal : said a ≡ summary_refusal c
+  pub gives : IfOk a (λ s. summary c.n c.label ≡ record { own = s.own; rings = s.rings; largest = s.largest })

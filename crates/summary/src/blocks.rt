@@ -1,16 +1,44 @@
 // How many vertices share each label, counted in blocks of label values: one pass over the column a block.
-ghost use Rattle.std.specs.Prelude.{◌≡◌, ◌+◌, ◌≤◌, ◌<◌, max, length, get_or, leb};
+ghost use Rattle.std.specs.Prelude.{◌≡◌, ◌+◌, ◌≤◌, ◌<◌, length, get_or};
 ghost use Rattle.graph.specs.Limits.{most_vertices};
 ghost use Rattle.graph.specs.Summary.{sharing};
-ghost use Rattle.summary.specs.Counts.{one, Low, Added, Fresh, Counted, Folded};
+ghost use Rattle.summary.specs.Counts.{Low, Added, Fresh, Counted, Folded, totals_of, joined};
 
 const BLOCK: usize = 4096;
 
 // Labels shared by two or more vertices, and the most vertices that share one.
-#[derive(Clone, Copy)]
+#[derive(Clone, Copy, Debug, PartialEq, Eq)]
 pub struct Totals {
     pub rings: u32,
     pub largest: u32,
+}
+
+const NOTHING: Totals = Totals {
+    rings: 0,
+    largest: 0,
+};
+
+impl Totals {
+    // These totals and those of other labels.
+    fn and(self, other: Totals) -> Totals
+        requires { self.rings + other.rings ≤ most_vertices }
+        ensures { result ≡ joined self other }
+    {
+        Totals {
+            rings: self.rings + other.rings,
+            largest: self.largest.max(other.largest),
+        }
+    }
+
+    // The totals of one label that so many vertices share.
+    fn of(count: u32) -> Totals
+        ensures { result ≡ totals_of count }
+    {
+        Totals {
+            rings: u32::from(2 <= count),
+            largest: count,
+        }
+    }
 }
 
 // Counts the label l if it stands in the block that begins at low.
@@ -33,93 +61,45 @@ fn count(label: &[u32], low: usize, counts: &mut [u32])
     requires { Fresh label.now counts.old }
     ensures { Counted label.now low counts.new }
 {
-    let mut v = 0;
-    while v < label.len() {
-        let l = label[v] as usize;
-        add(counts, low, l);
-        v += 1;
+    for l in label {
+        add(counts, low, *l as usize);
     }
 }
 
-// 1 for two or more, else 0.
-fn shared(count: u32) -> u32
-    ensures { result ≡ one (leb 2 count) }
+// The totals of the labels that the counters are of.
+fn fold(counts: &[u32]) -> Totals
+    requires { length counts.now ≤ most_vertices }
+    ensures { Folded (λ j. get_or counts.now j 0) (length counts.now) result }
 {
-    if 2 <= count {
-        return 1;
+    let mut totals = NOTHING;
+    for c in counts {
+        totals = totals.and(Totals::of(*c));
     }
-    0
-}
-
-fn larger(a: u32, b: u32) -> u32
-    ensures { result ≡ max a b }
-{
-    if a < b {
-        return b;
-    }
-    a
-}
-
-// The totals of the first k counters.
-fn fold(counts: &[u32], k: usize) -> Totals
-    requires { (k ≤ length counts.now) × (k ≤ most_vertices) }
-    ensures { Folded (λ j. get_or counts.now j 0) k result.rings result.largest }
-{
-    let mut rings: u32 = 0;
-    let mut largest: u32 = 0;
-    let mut j = 0;
-    while j < k {
-        let c = counts[j];
-        rings += shared(c);
-        largest = larger(c, largest);
-        j += 1;
-    }
-    Totals {
-        rings: rings,
-        largest: largest,
-    }
+    totals
 }
 
 // The totals of the k labels from low on.
 fn block(label: &[u32], low: usize, k: usize) -> Totals
     requires { (length label.now ≤ most_vertices) × (k ≤ 4096) }
-    ensures { Folded (λ j. sharing label.now (low + j)) k result.rings result.largest }
+    ensures { Folded (λ j. sharing label.now (low + j)) k result }
 {
     let mut counts = [0u32; BLOCK];
     count(label, low, &mut counts);
-    fold(&counts, k)
-}
-
-// How many of the labels below n the block that begins at low has.
-fn width(low: usize, n: usize) -> usize
-    requires { low < n }
-    ensures { (low + result ≤ n) × (result ≤ 4096) × (0 < result) × (result < 4096 → low + result ≡ n) }
-{
-    let left = n - low;
-    if left < BLOCK {
-        return left;
-    }
-    BLOCK
+    fold(&counts[..k])
 }
 
 // The totals of all labels below the number of vertices.
 pub fn all(label: &[u32]) -> Totals
     requires { length label.now ≤ most_vertices }
-    ensures { Folded (sharing label.now) (length label.now) result.rings result.largest }
+    ensures { Folded (sharing label.now) (length label.now) result }
 {
     let n = label.len();
-    let mut rings: u32 = 0;
-    let mut largest: u32 = 0;
+    let mut totals = NOTHING;
     let mut low = 0;
     while low < n {
-        let k = width(low, n);
-        let t = block(label, low, k);
-        rings += t.rings;
-        largest = larger(largest, t.largest);
+        let k = BLOCK.min(n - low);
+        totals = totals.and(block(label, low, k));
         low += k;
     }
-    Totals {
-        rings: rings,
-        largest: largest,
-    }
+    totals
 }

@@ -1,48 +1,43 @@
 // The summary of a label column: own labels, shared labels, and the largest number that share one.
 #![tactic(auto)]
 
+pub mod answer;
 mod blocks;
 mod own;
 
 ghost use Rattle.summary.specs.Promise.{Promise, summary_refusal};
+ghost use Rattle.graph.specs.Reasons.{said};
 ghost use Rattle.std.specs.Prelude.{◌≡◌};
 
+use crate::answer::Summary;
 use graph::limits;
+use graph::refusal::Refusal;
 
-#[derive(Clone, Copy)]
-pub enum Answer {
-    Done { own: u32, rings: u32, largest: u32 },
-    Refused(u32),
-}
-
-// The number of the first fault of the column, or 0.
-fn check(n: usize, label: &[u32]) -> u32
-    ensures { result ≡ summary_refusal (record { n = n; label = label.now }) }
+// The first fault of the column.
+fn check(n: usize, label: &[u32]) -> Result<(), Refusal>
+    ensures { said result ≡ summary_refusal (record { n = n; label = label.now }) }
 {
     if limits::MOST_VERTICES < n {
-        return limits::TOO_MANY_VERTICES;
+        return Err(Refusal::TooManyVertices);
     }
     if label.len() != n {
-        return limits::WRONG_LENGTH;
+        return Err(Refusal::WrongLength);
     }
     if graph::table::outside(label, n) {
-        return limits::VERTEX_OUTSIDE;
+        return Err(Refusal::VertexOutside);
     }
-    0
+    Ok(())
 }
 
-pub fn summary(n: usize, label: &[u32]) -> Answer
+pub fn summary(n: usize, label: &[u32]) -> Result<Summary, Refusal>
     ensures { Promise (record { n = n; label = label.now }) result }
 {
-    let k = check(n, label);
-    if k != 0 {
-        return Answer::Refused(k);
-    }
+    check(n, label)?;
     let own = own::count(label);
-    let t = blocks::all(label);
-    Answer::Done {
-        own: own,
-        rings: t.rings,
-        largest: t.largest,
-    }
+    let totals = blocks::all(label);
+    Ok(Summary {
+        own,
+        rings: totals.rings,
+        largest: totals.largest,
+    })
 }

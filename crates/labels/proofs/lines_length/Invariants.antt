@@ -1,11 +1,6 @@
-use mathlib.Core.Path.{◌≡◌}
-use Prim.Native.Nat.{◌≤◌, ◌-◌, ◌+◌, ◌*◌}
-use lib.ListN.{length, drop}
+use Rattle.std.proofs.Common.{◌≡◌, ◌≤◌, ◌+◌, ◌*◌, length, drop}
 use Rattle.labels.specs.File.{label_lines}
 use Rattle.labels.proofs.lines_length.Given as goal
 
-abbrev pub invariant-loop-v : goal.invariant-loop-v
-invariant-loop-v l = (l.v ≤ length l.label) × (l.total ≤ 11 * l.v) × (l.total + length (label_lines (drop l.v l.label)) ≡ length (label_lines l.label))
-
-abbrev pub decreases-loop-v : goal.decreases-loop-v
-decreases-loop-v l = length l.label - l.v
+abbrev pub invariant-loop-l : goal.invariant-loop-l
+invariant-loop-l l = (l.total ≤ 11 * l.l-index) × (l.total + length (label_lines (drop l.l-index l.label)) ≡ length (label_lines l.label))

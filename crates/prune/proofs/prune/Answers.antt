@@ -1,9 +1,6 @@
 use Rattle.prune.proofs.Core.{drain_ask, trim_all}
 use Rattle.prune.proofs.prune.Goals as goal
 
-pub pass-k-requires : goal.pass-k-requires
-pass-k-requires c = c.requires
-
 pub drain-requires : goal.drain-requires
 drain-requires c =
     let (g, a) = c.requires in

@@ -1,12 +1,7 @@
-use native.Mathlib.Omega.{arith}
-use Rattle.labels.proofs.Bytes.{copy_none, copy_step, copy_end}
+use Rattle.std.proofs.Common.{length, refl, arith}
+use Rattle.std.proofs.lemmas.Slice.{put_mid-paste}
+use Rattle.labels.proofs.Bytes.{copied}
 use Rattle.labels.proofs.put.put_bytes.Goals as goal
 
-pub loop-i-init : goal.loop-i-init
-loop-i-init c = (omega arith, search copy_none)
-
-pub loop-i-preserved : goal.loop-i-preserved
-loop-i-preserved c = (omega arith, search copy_step)
-
 pub returns : goal.returns
-returns c = search copy_end
+returns c = copied _ _ _ c.requires _ (put_mid-paste _ _ _ _ c.args.bytes.now (length c.args.bytes.now) c.copy_from_slice.ensures.after (omega arith) refl)

@@ -10,14 +10,14 @@ loop-i-init c = let (g, a) = c.requires in ((g, (a, pruned_none (pass_state a)))
 pub examine-k-requires : goal.examine-k-requires
 examine-k-requires c =
     let ((g, (a, z)), l, f) = c.loop-i.invariant in
-    rw (c.forward-forward.ensures, c.backward-backward.ensures) (g, pass_examine a l z c.loop-i-test.true)
+    rw (c.forward-forward.ensures, c.backward-backward.ensures, c.order-order.ensures) (g, pass_examine a l z c.loop-i-test.true)
 
 pub loop-i-preserved : goal.loop-i-preserved
 loop-i-preserved c =
     let ((g, (a, z)), l, f) = c.loop-i.invariant in
     let h = c.loop-i-test.true in
-    let y = rw (c.forward-forward.ensures, c.backward-backward.ensures) at c.examine-k.ensures in
-    rw (pass_next a l z h) (
+    let y = rw (c.forward-forward.ensures, c.backward-backward.ensures, c.order-order.ensures) at c.examine-k.ensures in
+    rw (c.chains-chains.ensures, pass_next a l z h) (
       (g, (a, pruned_more z (y g (pass_examine a l z h)).pruned)),
       along_next a.chain l h,
       λ g a. let (p, t) = f g a in let e = y g (pass_examine a l p h) in (pruned_more p e.pruned, pass_step a l p h e t),
