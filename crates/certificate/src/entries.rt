@@ -30,7 +30,9 @@ pub fn entries(table: &Table, label: &[u32], w: &mut [u32], d: usize, b: usize)
     ensures { Entered (graph_of table.now) label.now d b w.old w.new }
 {
     memory::fill(w, b, table.n, NO_EDGE);
+    // a copy stays in registers, where what is behind a reference is read again after each write to w
+    let table = *table;
     for e in (0..table.sources.len()).rev() {
-        offer(table, label, w, d, b, e);
+        offer(&table, label, w, d, b, e);
     }
 }

@@ -1,13 +1,13 @@
 -- The search of the classes, one after the other.
-use Prim.Native.Nat.{ℕ, ◌+◌, ◌≤◌, ◌<◌}
+use Prim.Native.Nat.{ℕ, ◌+◌, ◌-◌, ◌≤◌, ◌<◌}
 use native.Mathlib.Omega.{arith}
 use native.Mathlib.Decide.{ℕ_discrete}
-use mathlib.Core.Path.{◌≡◌, refl, sym, subst, ◌∙◌}
+use mathlib.Core.Path.{◌≡◌, refl, sym, ap, subst, ◌∙◌}
 use mathlib.Core.Logic.{◌⊎◌, inl, inr, ⊎_elim, by_cases}
 use mathlib.Core.Bool.{Bool, true, false, not}
 use mathlib.Core.List.{List, []}
-use lib.ListN.{length, get_or, set}
-use lib.Seq.{get_or-set_same, get_or-set_other}
+use lib.ListN.{length, get_or, set, take, drop, length-drop}
+use lib.Seq.{get_or-set_same, get_or-set_other, get_or-take, get_or-drop, length-take-le}
 use mir.Syntax.{w32}
 use mir.Val.{Fits}
 use borrow.Author.Tests.{eq-eqb, le-leb, not-true, not-false}
@@ -58,6 +58,18 @@ pub own_told : (lab : List ℕ) (n : ℕ) (r : Bool)
     → Owned n lab r
 own_told lab n true all = inl (refl, λ v l. own_says (label_and_rank lab []) v (sym (rw (place n v l) at (all v 0 (omega arith) (rw (length-range_with_len 0 n) l)))))
 own_told lab n false (k, l, fails) = let m : k < n = rw (length-range_with_len 0 n) at l in inr (refl, own_no lab m (rw (place n k m) at (fails 0)))
+
+-- what a test of each distance in turn says
+module _ (n b : ℕ) (w xs : List ℕ) (e : xs ≡ take (b + n - b) (drop b w)) (room : b + n ≤ length w) where
+  long : length xs ≡ n
+  long = omega (arith, ap length e, length-take-le (b + n - b) (drop b w) (omega (arith, length-drop b w)))
+
+  lies : (k : ℕ) → k < n → get_or xs k 0 ≡ region b w k
+  lies k l = ap (λ (xs : List ℕ). get_or xs k 0) e ∙ get_or-take (b + n - b) (drop b w) k 0 (omega arith) ∙ get_or-drop b w k 0
+
+  pub found_told : (r : Bool) → MatchBool r (AllWithin (λ y. y ≤ n) xs 0 (length xs)) ((k : ℕ) × (k < length xs) × HoldsAt (λ y. n < y) xs k) → AllFound n b w r
+  found_told true all = inl (refl, λ v l. rw (lies v l) at (all v 0 (omega arith) (omega (arith, long))))
+  found_told false (k, l, far) = let m : k < n = omega (arith, long) in inr (refl, (k, m, rw (lies k m) at (far 0)))
 
 module _ {n : ℕ} {lab : List ℕ} {b : ℕ} {w₀ : List ℕ} (a : ColourAsk n lab b w₀) where
   pub colour_none : Coloured n lab b 0 w₀ w₀

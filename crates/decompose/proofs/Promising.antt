@@ -8,10 +8,9 @@ use mathlib.Core.Logic.{◌⊎◌, inl, inr}
 use mathlib.Core.List.{List, []}
 use lib.ListN.{length, get_or, replicate}
 use lib.Dec.{T, eqb, ltb, leb, eqb→eq, leb→le}
-use Rattle.graph.specs.Graph.{Graph, Valid, IsLabel, table}
+use Rattle.graph.specs.Graph.{Graph, Valid, IsLabel, edges}
 use Rattle.graph.specs.Numbers.{many}
-use Rattle.memory.specs.Memory.{ClearAsk}
-use Rattle.graph.specs.Pivot.{draws}
+use Rattle.graph.specs.Pivot.{draws, list_of}
 use Rattle.graph.specs.Apart.{Course, whole, TakenApart}
 use Rattle.graph.specs.Summary.{sharing, summary}
 use Rattle.graph.proofs.Certificate.{right_unique}
@@ -22,30 +21,43 @@ use Rattle.split.specs.State.{ring, rings}
 use Rattle.split.proofs.Rings.{is_ring}
 use Rattle.waiting.specs.declared.Part.{Part}
 use Rattle.waiting.specs.Records.{none}
+use Rattle.std.specs.declared.option.Option.TheVariants.{None}
+use Rattle.graph.specs.Arrows.{SomeOf, EveryOf, arrows}
+use Rattle.memory.specs.declared.layout.Layout.{Layout}
+use Rattle.graph.specs.Reasons.{number_of}
+use Rattle.graph.proofs.Reasons.{number_some}
+use Rattle.pivot.specs.Kinds.{kind_of}
+use Rattle.pivot.specs.Order.{Arranged}
+use Rattle.pivot.proofs.Unique.{kind_low}
 use Rattle.pivot.specs.declared.chooser.Chooser.{Chooser}
+use Rattle.decompose.specs.Accept.{Named, Chosen}
+use Rattle.decompose.specs.declared.accept.Choice.{Choice}
+use Rattle.sweep.specs.Methods.{slicing_of}
 use Rattle.machine.specs.declared.Machine.{Machine}
-use Rattle.decompose.specs.declared.finish.Answer.{Answer}
-use Rattle.decompose.specs.declared.finish.Answer.TheVariants.{Done, Refused}
-use Rattle.machine.specs.Aim.{aim, goes, aimed}
+use Rattle.std.proofs.Common.{Result, Ok, Err}
+use Rattle.graph.specs.declared.refusal.Refusal.{Refusal}
+use Rattle.machine.specs.Orders.{order_of}
+use Rattle.machine.specs.Aim.{aim, aimed}
 use Rattle.machine.specs.Machine.{base}
 use Rattle.machine.specs.Waits.{waiting_count, first_of}
 use Rattle.decompose.specs.Running.{Unsliced, Running, Traced, Went}
 use Rattle.decompose.specs.Turns.{DriveAsk, Ran, idle, ran, Driven}
-use Rattle.decompose.specs.Begin.{Started, idle_with, first_one, Begun, refused, nothing, begun}
-use Rattle.decompose.specs.Finish.{Room, FinishAsk, Ended, refusing, doing}
+use Rattle.decompose.specs.Begin.{layout_of, BeginAsk, Started, first_one, Begun, nothing, begun}
+use Rattle.decompose.specs.Finish.{FinishAsk, Ended}
 use Rattle.decompose.specs.Plain.{still, Plainly}
-use Rattle.decompose.specs.Promise.{refusal_of, After, call, after, Promise}
+use Rattle.decompose.specs.Promise.{Call, collection, call, after, Promise}
 use Rattle.machine.proofs.Waiting.{waits_same}
-use Rattle.machine.proofs.Aiming.{goes_clear, stopped}
-use Rattle.decompose.proofs.Accepting.{Accepted, accepted}
+use Rattle.machine.proofs.Cutting.{method_low}
+use Rattle.machine.proofs.Aiming.{aim_clear, no_place, stopped}
+use Rattle.decompose.proofs.Accepting.{Lent, lent_passed, lent_ask, lent, all, refused_lent, refused_chosen}
 use Rattle.decompose.proofs.Starting.{rings_begin}
-use Rattle.decompose.proofs.Coursing.{drawn_first, course_same, apart_unlisted, apart_none}
+use Rattle.decompose.proofs.Coursing.{drawn_first, course_same, apart_none}
 
 -- the machine before its first turn
-module _ {n : ℕ} {src tgt kinds : List ℕ} {method order : ℕ} {c : Chooser} {list num wor num' wor' : List ℕ} {lab parts len len' : ℕ} (mask : ℕ)
-    (a : Accepted n src tgt kinds method order c.kind lab parts len len') (p : 0 < n) (st : Started (table n src tgt kinds mask) c.kind list num wor num' wor') (e : len ≡ length num) (ys : List Part) (l : n ≤ length ys) where
-  pub begun_running : Running (table n src tgt kinds mask) c ys num' wor' (aimed n (first_one n method order c))
-  unfolding goes aim draws
+module _ {g : Graph} {kinds : List ℕ} (x : Choice) {c : Chooser} {list num wor num' wor' : List ℕ}
+    (a : BeginAsk g kinds num wor) (same : kind_of x.pivots ≡ c.kind) (p : 0 < g.n) (st : Started g (kind_of x.pivots) list num wor num' wor') (ys : List Part) (l : g.n ≤ length ys) where
+  begun_running : Running g c ys num' wor' (aimed g.n (first_one g.n x c))
+  unfolding aim draws
   begun_running =
       record {
         small = a.small;
@@ -58,82 +70,68 @@ module _ {n : ℕ} {src tgt kinds : List ℕ} {method order : ℕ} {c : Chooser}
         early = λ q. refl;
         zeros = λ j h. absurd (not-suc-le-zero h);
         flags = λ i h. absurd (not-suc-le-zero h);
-        whole = elim (ℕ_discrete (first_one n method order c).slicing 0) as (λ _. ((first_one n method order c).slicing ≡ 0) ⊎ Unsliced n (base (table n src tgt kinds mask)) ys num' (aimed n (first_one n method order c))) [
+        whole = elim (ℕ_discrete (slicing_of x.method) 0) as (λ _. (slicing_of x.method ≡ 0) ⊎ Unsliced g.n (base g) ys num' (aimed g.n (first_one g.n x c))) [
           | yes q ↦ inl q
-          | no q ↦ inr (record { one = omega (arith, a.known_method); alone = refl; whole = st.whole; made = refl })
+          | no q ↦ inr (record { one = omega (arith, method_low x.method); alone = refl; whole = st.whole; made = refl })
         ];
-        waits = waits_same st.waits (first_of n (base (table n src tgt kinds mask)) ys num' (aimed n (first_one n method order c))) same;
+        waits = waits_same st.waits (first_of g.n (base g) ys num' (aimed g.n (first_one g.n x c))) same_first;
         blank = st.blank;
-        drawn = λ q. rings_begin (table n src tgt kinds mask) (base (table n src tgt kinds mask)) num' st.whole.colours;
+        drawn = λ q. rings_begin g (base g) num' st.whole.colours;
         still = λ q. refl;
         most = omega arith;
         kind = refl;
         state = refl;
-        going = refl;
-        reading = refl;
+        aiming = refl;
       }
     where
-      same : (i : ℕ) → i < 1 → first_of n (base (table n src tgt kinds mask)) ys num' (aimed n (first_one n method order c)) i ≡ head n (base (table n src tgt kinds mask)) num' i
-      same i h = let x : i ≡ 0 = omega arith in rw x refl
+      same_first : (i : ℕ) → i < 1 → first_of g.n (base g) ys num' (aimed g.n (first_one g.n x c)) i ≡ head g.n (base g) num' i
+      same_first i h = let z : i ≡ 0 = omega arith in rw z refl
 
   -- the course begins with the whole
-  begun_traced : Traced (table n src tgt kinds mask) method c list ys num' (aimed n (first_one n method order c))
+  begun_traced : Traced g (slicing_of x.method) c list ys num' (aimed g.n (first_one g.n x c))
   begun_traced =
       record {
-        known = a.known_kind;
-        order = st.order;
+        known = omega (arith, same, kind_low x.pivots);
+        order = subst (λ (k : ℕ). Arranged g.n (list_of k list) (ord g.n (base g) num')) same st.order;
         choices = 0;
-        course = whole st.whole.colours (st.whole.colours (ord n (base (table n src tgt kinds mask)) num' (head n (base (table n src tgt kinds mask)) num' 0)) (st.order.low (head n (base (table n src tgt kinds mask)) num' 0) (st.waits.first 0 (omega arith)).low));
+        course = whole st.whole.colours (st.whole.colours (ord g.n (base g) num' (head g.n (base g) num' 0)) (st.order.low (head g.n (base g) num' 0) (st.waits.first 0 (omega arith)).low));
         drawn = drawn_first (eqb c.kind 1);
       }
 
 -- the drive may begin
-pub begun_drive : {n : ℕ} {src tgt kinds : List ℕ} {mask method order : ℕ} {c : Chooser} {list : List ℕ} {lab : ℕ} {num wor num' wor' : List ℕ} {ys : List Part} {s : Machine}
-    → Begun n src tgt kinds mask method order c list (length ys) lab num wor num' wor' s → DriveAsk (table n src tgt kinds mask) ys num' wor' s
-begun_drive (refused h) = record { ready = λ g. absurd (not-suc-le-zero g) }
-begun_drive (nothing z e) = record { ready = λ g. absurd (not-suc-le-zero g) }
-begun_drive {mask = mask} {ys = ys} (begun z p st) = let a = accepted z in record { ready = λ g. begun_running mask a p st refl ys a.waiting }
+begun_drive : {g : Graph} {kinds : List ℕ} {x : Choice} {c : Chooser} {list num wor num' wor' : List ℕ} {ys : List Part} {s : Machine} → BeginAsk g kinds num wor → kind_of x.pivots ≡ c.kind
+    → g.n ≤ length ys → Begun g x c list num wor num' wor' s → DriveAsk g (base g) ys num' wor' s
+begun_drive a e l (nothing z) = record { base = refl; ready = λ i q. absurd (no_place refl q) }
+begun_drive {x = x} {ys = ys} a e l (begun p st) = record { base = refl; ready = λ i q. begun_running x a e p st ys l }
 
--- the lengths of lent memory stay, and so does the refusal
-pub record Lengths (num wor num' wor' : List ℕ) (s e : Machine) : Type 0 where
-  pub numbers : length num' ≡ length num
-  pub words : length wor' ≡ length wor
-  pub refusal : e.refusal ≡ s.refusal
+-- the lengths of lent memory stay
+record Lengths (num wor num' wor' : List ℕ) : Type 0 where
+  numbers : length num' ≡ length num
+  words : length wor' ≡ length wor
 
-ran_lengths : {g : Graph} {ys ys' : List Part} {num wor num' wor' : List ℕ} {s e : Machine} → Ran g ys num wor s ys' num' wor' e → Lengths num wor num' wor' s e
-ran_lengths (idle z) = record { numbers = refl; words = refl; refusal = refl }
-ran_lengths (ran p r w f) = record { numbers = w.numbers_long; words = w.words_long; refusal = w.refusal }
+begun_lengths : {g : Graph} {x : Choice} {c : Chooser} {list num wor num' wor' : List ℕ} {s : Machine} → Begun g x c list num wor num' wor' s → Lengths num wor num' wor'
+begun_lengths (nothing z) = record { numbers = refl; words = refl }
+begun_lengths (begun p st) = record { numbers = st.long; words = st.words_long }
 
--- what the beginning says of the end
-pub record Accepting (n m : ℕ) (lab num wor num₁ wor₁ : List ℕ) (s : Machine) : Type 0 where
-  pub room : s.refusal ≡ 0 → Room n m lab num₁ wor₁
+ran_lengths : {g : Graph} {ys ys' : List Part} {num wor num' wor' : List ℕ} {s e : Machine} → Ran g ys num wor s ys' num' wor' e → Lengths num wor num' wor'
+ran_lengths (idle z) = record { numbers = refl; words = refl }
+ran_lengths (ran p r w f) = record { numbers = w.numbers_long; words = w.words_long }
 
-clear_same : {n m : ℕ} {num wor num₁ wor₁ : List ℕ} → ClearAsk n m num wor → length num₁ ≡ length num → length wor₁ ≡ length wor → ClearAsk n m num₁ wor₁
-clear_same a p q = record { limits = a.limits; enough = record { numbers = omega (arith, a.enough.numbers); words = omega (arith, a.enough.words) } }
-
-accepted_clear : {n : ℕ} {src tgt kinds : List ℕ} {method order kind lab parts len len' : ℕ} {num wor : List ℕ}
-    → Accepted n src tgt kinds method order kind lab parts len len' → length num ≡ len → length wor ≡ len' → ClearAsk n (length src) num wor
-accepted_clear a p q = record { limits = record { small = a.small; few = a.few }; enough = record { numbers = omega (arith, a.memory.numbers); words = omega (arith, a.memory.words) } }
-
-accepting : {n : ℕ} {src tgt kinds : List ℕ} {mask method order : ℕ} {c : Chooser} {list lab : List ℕ} {parts : ℕ} {num wor num₁ wor₁ : List ℕ} {s : Machine}
-    → Begun n src tgt kinds mask method order c list parts (length lab) num wor num₁ wor₁ s → Accepting n (length src) lab num wor num₁ wor₁ s
-accepting (refused h) = record { room = λ z. absurd (h z) }
-accepting (nothing q e) = let a = accepted q in record { room = λ z. record { label = a.label; memory = accepted_clear a refl refl } }
-accepting (begun q p st) =
-    record { room = λ z. record { label = (accepted q).label; memory = accepted_clear (accepted q) st.long st.words_long } }
-
-ended_ask : {n m : ℕ} {lab num wor num₁ wor₁ num₂ wor₂ : List ℕ} {s e : Machine} → Accepting n m lab num wor num₁ wor₁ s → Lengths num₁ wor₁ num₂ wor₂ s e → FinishAsk n m lab num₂ wor₂ e
-ended_ask a x =
-    record { room = λ z. let r = a.room (sym x.refusal ∙ z) in record { label = r.label; memory = clear_same r.memory x.numbers x.words } }
-
-pub driven_finish : {n : ℕ} {src tgt kinds : List ℕ} {mask method order : ℕ} {c : Chooser} {list lab : List ℕ} {num wor num₁ wor₁ num₂ wor₂ : List ℕ} {s e : Machine} {ys ys₁ : List Part}
-    → Begun n src tgt kinds mask method order c list (length ys) (length lab) num wor num₁ wor₁ s → Driven (table n src tgt kinds mask) ys num₁ wor₁ s ys₁ num₂ wor₂ e → FinishAsk n (length src) lab num₂ wor₂ e
-driven_finish b d = ended_ask (accepting b) (ran_lengths d.run)
+driven_finish : {g : Graph} {kinds : List ℕ} {x : Choice} {c : Chooser} {list lab num wor num₁ wor₁ num₂ wor₂ : List ℕ} {s e : Machine} {ys ys₁ : List Part} → BeginAsk g kinds num wor → length lab ≡ g.n
+    → Begun g x c list num wor num₁ wor₁ s → Driven g ys num₁ wor₁ s ys₁ num₂ wor₂ e → FinishAsk g.n (edges g) (base g) lab num₂ wor₂
+driven_finish a l b d =
+    let p = begun_lengths b in
+    let q = ran_lengths d.run in
+    record {
+      label = l;
+      colours = omega (arith, a.memory.numbers, p.numbers, q.numbers);
+      memory = record { limits = record { small = a.small; few = a.few }; enough = record { numbers = omega (arith, a.memory.numbers, p.numbers, q.numbers); words = omega (arith, a.memory.words, p.words, q.words) } };
+    }
 
 -- nothing waits: every colour is a label
-module _ {g : Graph} {c : Chooser} {ys : List Part} {num wor : List ℕ} {e : Machine} (r : Running g c ys num wor e) (done : e.go ≡ 0) (valid : Valid g) where
+module _ {g : Graph} {c : Chooser} {ys : List Part} {num wor : List ℕ} {e : Machine} (r : Running g c ys num wor e) (done : e.next ≡ None) (valid : Valid g) where
   stops : (g.n ≤ e.cleared) × (e.pending ≤ e.given) × (e.count ≡ 0)
-  stops = stopped g.n e (sym r.going ∙ done)
+  stops = stopped g.n e (sym r.aiming ∙ done)
 
   labelled_all : (v : ℕ) → v < g.n → col (base g) num v < g.n
   labelled_all v l = elim (dec_lt (col (base g) num v) g.n) as (λ _. col (base g) num v < g.n) [
@@ -155,15 +153,15 @@ module _ {g : Graph} {c : Chooser} {ys : List Part} {num wor : List ℕ} {e : Ma
   ended_most = omega (arith, r.most, many_le (λ v. ltb (col (base g) num v) g.n) g.n)
 
   -- and the course has come to its end
-  ended_course : {method order : ℕ} {list : List ℕ} (lab : List ℕ) → ((v : ℕ) → v < g.n → get_or lab v 0 ≡ col (base g) num v) → e.order ≡ order → (t : Traced g method c list ys num e)
+  ended_course : {method order : ℕ} {list : List ℕ} (lab : List ℕ) → ((v : ℕ) → v < g.n → get_or lab v 0 ≡ col (base g) num v) → order_of e.order ≡ order → (t : Traced g method c list ys num e)
       → TakenApart g method order c.kind c.state list lab t.choices
   ended_course {method} {order} {list} lab are o t =
       record {
-        slicing = e.slicing;
+        slicing = slicing_of e.method;
         top = e.top;
         own = col (base g) num;
         part = λ i. own g.n (base g) num (first_of g.n (base g) ys num e i);
-        course = subst (λ (x : ℕ). Course g method x c.kind c.state list e.slicing (col (base g) num) e.top 0 (λ i. own g.n (base g) num (first_of g.n (base g) ys num e i)) t.choices) o
+        course = subst (λ (x : ℕ). Course g method x c.kind c.state list (slicing_of e.method) (col (base g) num) e.top 0 (λ i. own g.n (base g) num (first_of g.n (base g) ys num e i)) t.choices) o
             (course_same (sym none_left) (λ i l. refl) t.course);
         labels = are;
       }
@@ -197,96 +195,106 @@ module _ {g : Graph} {c : Chooser} {ys : List Part} {num wor : List ℕ} {e : Ma
     unfolding summary
     ended_rings = many_mono (λ l. leb 2 (sharing lab l)) (ring g.n (col (base g) num)) g.n shared
 
--- refused
-refused_met : {n : ℕ} {src tgt kinds : List ℕ} {mask method order : ℕ} {c : Chooser} {list lab : List ℕ} {num wor : List ℕ} {ys : List Part} {lab₃ num₃ wor₃ : List ℕ} {a : Answer} (k : ℕ)
-    → k ≡ refusal_of n src tgt kinds method order c.kind (length lab) (length ys) (length num) (length wor) → (k ≡ 0 → ⊥)
-    → Ended n (length src) lab num wor (idle_with k c) lab₃ num₃ wor₃ a → Promise (call n src tgt kinds mask method order c list ys lab num wor) (after c ys lab₃ num₃ wor₃) a
-refused_met k e h (refusing x) = record { refusal = e; gives = record { refused = h; chooser = refl; waiting = refl; label = refl; numbers = refl; words = refl } }
-refused_met k e h (doing x cp z) = absurd (h x)
+-- a call that is refused, for what was lent or for what was chosen
+module _ {c : Call} (r : Refusal) where
+  refused_met : number_of r ≡ all c → Promise c (after c.chooser c.waiting c.label c.numbers c.words) (Err r)
+  refused_met e = record { refusal = e; gives = record { refused = number_some r; chooser = refl; waiting = refl; label = refl; numbers = refl; words = refl } }
 
--- no vertex
-nothing_met : {n : ℕ} {src tgt kinds : List ℕ} {mask method order : ℕ} {c : Chooser} {list lab : List ℕ} {num wor : List ℕ} {ys : List Part} {lab₃ num₃ wor₃ : List ℕ} {a : Answer}
-    → refusal_of n src tgt kinds method order c.kind (length lab) (length ys) (length num) (length wor) ≡ 0 → n ≡ 0
-    → Ended n (length src) lab num wor (idle_with 0 c) lab₃ num₃ wor₃ a → Promise (call n src tgt kinds mask method order c list ys lab num wor) (after c ys lab₃ num₃ wor₃) a
-unfolding draws summary
-nothing_met q e (refusing x) = absurd (x refl)
-nothing_met {n} {mask = mask} {method} {order} {c} {list} {lab₃ = lab₃} q e (doing x cp z) =
-    let k = accepted q in
-    record {
-      refusal = sym q;
-      gives = record {
-        label = right_unique (k.valid mask) lab₃ (cp.long ∙ k.label) (λ v l. absurd (omega arith));
-        choices = 0;
-        course = apart_none method order c.kind c.state list lab₃ e;
-        drawn = drawn_first (eqb c.kind 1);
-        never = λ z. refl;
-        least = λ z. omega (arith, many_le (λ l. leb 2 (sharing lab₃ l)) n);
-        most = omega arith;
-        state = refl;
-        kind = refl;
-        waiting = record { long = refl; front = λ j h. absurd (omega arith); rest = λ j h. refl };
-        numbers = z.numbers_zero;
-        words = z.words_zero;
-      };
-    }
+  pub lent_met : number_of r ≡ lent c → Promise c (after c.chooser c.waiting c.label c.numbers c.words) (Err r)
+  lent_met e = refused_met (refused_lent c r e)
 
--- the machine ran
-ran_met : {n : ℕ} {src tgt kinds : List ℕ} {mask method order : ℕ} {c : Chooser} {list lab : List ℕ} {num wor num₁ wor₁ num₂ wor₂ : List ℕ} {e : Machine} {ys ys₂ : List Part} {lab₃ num₃ wor₃ : List ℕ} {a : Answer}
-    → refusal_of n src tgt kinds method order c.kind (length lab) (length ys) (length num) (length wor) ≡ 0 → Started (table n src tgt kinds mask) c.kind list num wor num₁ wor₁
-    → Running (table n src tgt kinds mask) c ys₂ num₂ wor₂ e → Went n (length src) ys num₁ wor₁ (aimed n (first_one n method order c)) ys₂ num₂ wor₂ e
-    → Traced (table n src tgt kinds mask) method c list ys₂ num₂ e → e.go ≡ 0
-    → Ended n (length src) lab num₂ wor₂ e lab₃ num₃ wor₃ a → Promise (call n src tgt kinds mask method order c list ys lab num wor) (after e.chooser ys₂ lab₃ num₃ wor₃) a
-ran_met q st r w t d (refusing x) = absurd (x w.refusal)
-ran_met {n} {src} {tgt} {kinds} {mask} {c = c} {num₂ = num₂} {lab₃ = lab₃} q st r w t d (doing x cp z) =
-    let k = accepted q in
-    let copied : (v : ℕ) → v < n → get_or lab₃ v 0 ≡ col (base (table n src tgt kinds mask)) num₂ v = λ v l. cp.each v (omega (arith, k.label)) in
-    record {
-      refusal = sym q;
-      gives = record {
-        label = right_unique (k.valid mask) lab₃ (cp.long ∙ k.label) (λ v l. rw (copied v l) (ended_label r d (k.valid mask) v l));
-        choices = t.choices;
-        course = ended_course r d (k.valid mask) lab₃ copied w.order t;
-        drawn = t.drawn;
-        never = r.still;
-        least = λ z. omega (arith, r.drawn z, ended_rings r d (k.valid mask) lab₃ (cp.long ∙ k.label) copied);
-        most = ended_most r d (k.valid mask);
-        state = r.state;
-        kind = r.kind;
-        waiting = record { long = w.long; front = ended_none r d (k.valid mask); rest = w.list };
-        numbers = zeroed_after (w.numbers_long ∙ st.long) (λ j h. w.numbers j h ∙ st.beyond j h) z.numbers_zero;
-        words = zeroed_after (w.words_long ∙ st.words_long) (λ j h. w.words j h ∙ st.words j h) z.words_zero;
-      };
-    }
+  pub chosen_met : 0 ≡ lent c → Chosen c.method c.order c.chooser.kind (Err r) → Promise c (after c.chooser c.waiting c.label c.numbers c.words) (Err r)
+  chosen_met z x = refused_met (refused_chosen c (Err r) z x)
 
-met : {n : ℕ} {src tgt kinds : List ℕ} {mask method order : ℕ} {c : Chooser} {list lab : List ℕ} {num wor num₁ wor₁ num₂ wor₂ : List ℕ} {ys : List Part} {s e : Machine} {ys₂ : List Part} {lab₃ num₃ wor₃ : List ℕ} {a : Answer}
-    → Begun n src tgt kinds mask method order c list (length ys) (length lab) num wor num₁ wor₁ s → Ran (table n src tgt kinds mask) ys num₁ wor₁ s ys₂ num₂ wor₂ e → e.go ≡ 0
-    → Ended n (length src) lab num₂ wor₂ e lab₃ num₃ wor₃ a → Promise (call n src tgt kinds mask method order c list ys lab num wor) (after e.chooser ys₂ lab₃ num₃ wor₃) a
-met {n} {src} {tgt} {kinds} {mask} {method} {order} {c} {lab = lab} {num = num} {wor = wor} {ys = ys} (refused h) (idle z) d f = refused_met (refusal_of n src tgt kinds method order c.kind (length lab) (length ys) (length num) (length wor)) refl h f
-met (refused h) (ran p r w t) d f = absurd (not-suc-le-zero p)
-met (nothing q e) (idle z) d f = nothing_met q e f
-met (nothing q e) (ran p r w t) d f = absurd (not-suc-le-zero p)
-met {n} {method = method} {order = order} {c = c} (begun q p st) (idle z) d f = absurd (omega (arith, goes_clear n (first_one n method order c) p))
-met {mask = mask} {method} {list = list} {ys = ys} (begun q p st) (ran x r w t) d f = let a = accepted q in ran_met q st r w (t method list (begun_traced mask a p st refl ys a.waiting)) d f
+-- a call that is not refused
+module _ (c : Call) {x : Choice} (z : 0 ≡ lent c) (h : Named c.method c.order c.chooser.kind x) where
+  abbrev g : Graph
+  g = collection c
 
--- the calls of the decomposer, one after the other: the chooser is copied, and put back as the machine leaves it
-pub promised : {n : ℕ} {src tgt kinds : List ℕ} {mask method order : ℕ} {c x c₂ : Chooser} {list lab : List ℕ} {num wor num₁ wor₁ num₂ wor₂ : List ℕ} {s e : Machine} {ys ys₂ : List Part} {lab₃ num₃ wor₃ : List ℕ} {a : Answer}
-    → x ≡ c → Begun n src tgt kinds mask method order x list (length ys) (length lab) num wor num₁ wor₁ s → Driven (table n src tgt kinds mask) ys num₁ wor₁ s ys₂ num₂ wor₂ e → c₂ ≡ e.chooser
-    → Ended n (length src) lab num₂ wor₂ e lab₃ num₃ wor₃ a → Promise (call n src tgt kinds mask method order c list ys lab num wor) (after c₂ ys₂ lab₃ num₃ wor₃) a
-promised {n} {src} {tgt} {kinds} {mask} {method} {order} {list = list} {lab} {num} {wor} {num₁} {wor₁} {s = s} {ys = ys} {ys₂} {lab₃} {num₃} {wor₃} {a} q b d p f =
-    rw p (met (subst (λ (y : Chooser). Begun n src tgt kinds mask method order y list (length ys) (length lab) num wor num₁ wor₁ s) q b) d.run d.done f)
+  passed : Lent c.n c.sources c.targets c.kinds (length c.label) (length c.waiting) (length c.numbers) (length c.words)
+  passed = lent_passed z
 
--- pivot kind 0 reads no list of vertices
-unlisted : {n : ℕ} {src tgt kinds : List ℕ} {mask : ℕ} {list lab num wor : List ℕ} {ys : List Part} {o : After} (a : Answer) → Promise (call n src tgt kinds mask 0 0 still list ys lab num wor) o a → Promise (call n src tgt kinds mask 0 0 still [] ys lab num wor) o a
-unlisted (Done d) p =
-    let f = p.gives in
-    record {
-      refusal = p.refusal;
-      gives = record { label = f.label; choices = f.choices; course = apart_unlisted f.course; drawn = f.drawn; never = f.never; least = f.least; most = f.most; state = f.state; kind = f.kind; waiting = f.waiting; numbers = f.numbers; words = f.words };
-    }
-unlisted (Refused k) p =
-    let f = p.gives in
-    record { refusal = p.refusal; gives = record { refused = f.refused; chooser = f.chooser; waiting = f.waiting; label = f.label; numbers = f.numbers; words = f.words } }
+  valid : Valid g
+  valid = passed.valid c.mask
 
-pub plainly : {n : ℕ} {src tgt kinds : List ℕ} {mask : ℕ} {list lab num wor : List ℕ} {c₂ : Chooser} {ys ys₂ : List Part} {lab₃ num₃ wor₃ : List ℕ} {a : Answer}
-    → ys ≡ replicate 512 none → Promise (call n src tgt kinds mask 0 0 still list ys lab num wor) (after c₂ ys₂ lab₃ num₃ wor₃) a → Plainly n src tgt kinds mask lab num wor lab₃ num₃ wor₃ a
-plainly {c₂ = c₂} {ys₂ = ys₂} {a = a} q p = record { chooser = c₂; waiting = ys₂; promise = unlisted a (rw q at p) }
+  ask : BeginAsk g c.kinds c.numbers c.words
+  ask = lent_ask c.mask passed
+
+  unrefused : 0 ≡ all c
+  unrefused = refused_chosen c (Ok x) z h
+
+  module _ {lab₃ num₃ wor₃ : List ℕ} where
+    -- no vertex
+    nothing_met : c.n ≡ 0 → Ended c.n (length c.sources) (base g) c.label c.numbers c.words lab₃ num₃ wor₃ → Promise c (after c.chooser c.waiting lab₃ num₃ wor₃) (Ok 0)
+    unfolding draws summary
+    nothing_met e f =
+        record {
+          refusal = unrefused;
+          gives = record {
+            label = right_unique valid lab₃ (f.copied.long ∙ passed.label) (λ v l. absurd (omega arith));
+            choices = 0;
+            course = apart_none c.method c.order c.chooser.kind c.chooser.state c.list lab₃ e;
+            drawn = drawn_first (eqb c.chooser.kind 1);
+            never = λ z. refl;
+            least = λ z. omega (arith, many_le (λ l. leb 2 (sharing lab₃ l)) c.n);
+            most = omega arith;
+            state = refl;
+            kind = refl;
+            waiting = record { long = refl; front = λ j h. absurd (omega arith); rest = λ j h. refl };
+            numbers = f.cleared.numbers_zero;
+            words = f.cleared.words_zero;
+          };
+        }
+
+    -- the machine ran
+    ran_met : {num₁ wor₁ num₂ wor₂ : List ℕ} {e : Machine} {ys₂ : List Part} → Started g (kind_of x.pivots) c.list c.numbers c.words num₁ wor₁ → Running g c.chooser ys₂ num₂ wor₂ e
+        → Went c.n (length c.sources) c.waiting num₁ wor₁ (aimed c.n (first_one c.n x c.chooser)) ys₂ num₂ wor₂ e → Traced g (slicing_of x.method) c.chooser c.list ys₂ num₂ e → e.next ≡ None
+        → Ended c.n (length c.sources) (base g) c.label num₂ wor₂ lab₃ num₃ wor₃ → Promise c (after e.chooser ys₂ lab₃ num₃ wor₃) (Ok e.made)
+    ran_met {num₂ = num₂} st r w t d f =
+        let copied : (v : ℕ) → v < c.n → get_or lab₃ v 0 ≡ col (base g) num₂ v = λ v l. f.copied.each v (omega (arith, passed.label)) in
+        record {
+          refusal = unrefused;
+          gives = record {
+            label = right_unique valid lab₃ (f.copied.long ∙ passed.label) (λ v l. rw (copied v l) (ended_label r d valid v l));
+            choices = t.choices;
+            course = subst (λ (m : ℕ). TakenApart g m c.order c.chooser.kind c.chooser.state c.list lab₃ t.choices) h.method (ended_course r d valid lab₃ copied (ap order_of w.order ∙ h.order) t);
+            drawn = t.drawn;
+            never = r.still;
+            least = λ z. omega (arith, r.drawn z, ended_rings r d valid lab₃ (f.copied.long ∙ passed.label) copied);
+            most = ended_most r d valid;
+            state = r.state;
+            kind = r.kind;
+            waiting = record { long = w.long; front = ended_none r d valid; rest = w.list };
+            numbers = zeroed_after (w.numbers_long ∙ st.long) (λ j h. w.numbers j h ∙ st.beyond j h) f.cleared.numbers_zero;
+            words = zeroed_after (w.words_long ∙ st.words_long) (λ j h. w.words j h ∙ st.words j h) f.cleared.words_zero;
+          };
+        }
+
+    met : {num₁ wor₁ num₂ wor₂ : List ℕ} {s e : Machine} {ys₂ : List Part} → Begun g x c.chooser c.list c.numbers c.words num₁ wor₁ s → Ran g c.waiting num₁ wor₁ s ys₂ num₂ wor₂ e → e.next ≡ None
+        → Ended c.n (length c.sources) (base g) c.label num₂ wor₂ lab₃ num₃ wor₃ → Promise c (after e.chooser ys₂ lab₃ num₃ wor₃) (Ok e.made)
+    met (nothing q) (idle y) d f = nothing_met q f
+    met (nothing q) (ran p r w t) d f = absurd (no_place refl p)
+    met (begun q st) (idle y) d f = absurd (no_place y (aim_clear c.n (first_one c.n x c.chooser) q))
+    met (begun q st) (ran p r w t) d f = ran_met st r w (t (slicing_of x.method) c.list (begun_traced x ask h.pivots q st c.waiting passed.waiting)) d f
+
+  -- the calls of the decomposer, one after the other, on the layout of the call
+  module _ {at : Layout} (e : at ≡ layout_of g) {num₁ wor₁ : List ℕ} {s : Machine} (b : Begun g x c.chooser c.list c.numbers c.words num₁ wor₁ s) where
+    drive_ask : DriveAsk g (base g) c.waiting num₁ wor₁ s
+    drive_ask = begun_drive ask h.pivots passed.waiting b
+
+    pub call_drive : SomeOf at.n at.m (λ g. DriveAsk g at.base c.waiting num₁ wor₁ s)
+    call_drive = subst (λ (y : Layout). SomeOf y.n y.m (λ g. DriveAsk g y.base c.waiting num₁ wor₁ s)) (sym e) (arrows g, drive_ask)
+
+    module _ {num₂ wor₂ : List ℕ} {ys₂ : List Part} {r : Machine} (d : EveryOf at.n at.m (λ g. DriveAsk g at.base c.waiting num₁ wor₁ s → Driven g c.waiting num₁ wor₁ s ys₂ num₂ wor₂ r)) where
+      driven : Driven g c.waiting num₁ wor₁ s ys₂ num₂ wor₂ r
+      driven = subst (λ (y : Layout). EveryOf y.n y.m (λ g. DriveAsk g y.base c.waiting num₁ wor₁ s → Driven g c.waiting num₁ wor₁ s ys₂ num₂ wor₂ r)) e d (arrows g) drive_ask
+
+      pub call_finish : FinishAsk at.n at.m at.base c.label num₂ wor₂
+      call_finish = subst (λ (y : Layout). FinishAsk y.n y.m y.base c.label num₂ wor₂) (sym e) (driven_finish ask passed.label b driven)
+
+      pub call_met : {lab₃ num₃ wor₃ : List ℕ} → Ended at.n at.m at.base c.label num₂ wor₂ lab₃ num₃ wor₃ → Promise c (after r.chooser ys₂ lab₃ num₃ wor₃) (Ok r.made)
+      call_met {lab₃} {num₃} {wor₃} f = met b driven.run driven.done (subst (λ (y : Layout). Ended y.n y.m y.base c.label num₂ wor₂ lab₃ num₃ wor₃) e f)
+
+pub plainly : {n : ℕ} {src tgt kinds : List ℕ} {mask : ℕ} {lab num wor : List ℕ} {c₂ : Chooser} {ys ys₂ : List Part} {lab₃ num₃ wor₃ : List ℕ} {a : Result ℕ Refusal}
+    → ys ≡ replicate 512 none → Promise (call n src tgt kinds mask 0 0 still [] ys lab num wor) (after c₂ ys₂ lab₃ num₃ wor₃) a → Plainly n src tgt kinds mask lab num wor lab₃ num₃ wor₃ a
+plainly {c₂ = c₂} {ys₂ = ys₂} q p = record { chooser = c₂; waiting = ys₂; promise = rw q at p }

@@ -2,7 +2,7 @@
 use Prim.Native.Nat.{ℕ, ◌+◌, ◌-◌, ◌*◌, ◌/◌, ◌≤◌, ◌<◌}
 use native.Mathlib.Omega.{arith}
 use native.Mathlib.Nat.{not-suc-le-zero}
-use mathlib.Core.Path.{◌≡◌, refl, sym, ap, ◌∙◌}
+use mathlib.Core.Path.{◌≡◌, refl, sym, ap, subst, ◌∙◌}
 use mathlib.Core.List.{List}
 use lib.ListN.{length, get_or}
 use Rattle.graph.specs.Graph.{Graph, rev, edges}
@@ -22,7 +22,8 @@ use Rattle.parts.specs.Divide.{Blank}
 use Rattle.sweep.proofs.Choice.{arranged_placed}
 use Rattle.split.proofs.Rings.{ring_is}
 use Rattle.graph.specs.Pivot.{list_of}
-use Rattle.decompose.specs.Begin.{StartAsk, Started}
+use Rattle.memory.specs.declared.layout.Layout.{Layout}
+use Rattle.decompose.specs.Begin.{layout_of, StartAsk, Started}
 use Rattle.machine.specs.Machine.{base}
 
 -- words of zeros are a set with no vertex
@@ -81,9 +82,9 @@ module _ (g : Graph) (L : List ℕ) {kinds w w₁ w₂ w₃ w₄ w₅ w₆ ws ws
   tables : Tables g b w₆
   tables =
       record {
-        valid = ask.valid;
-        few = ask.few;
-        small = ask.small;
+        valid = ask.ask.valid;
+        few = ask.ask.few;
+        small = ask.ask.small;
         below = omega arith;
         fwd = held_kept g 0 w₁ w₆ (λ j h k. low j (omega arith)) both.forward;
         bwd = held_kept (rev g) (g.n + 1 + edges g) w₁ w₆ (λ j h k. low j (omega arith)) both.reverse;
@@ -95,12 +96,12 @@ module _ (g : Graph) (L : List ℕ) {kinds w w₁ w₂ w₃ w₄ w₅ w₆ ws ws
         tables = tables;
         placed = arranged_placed arranged;
         owned = record {
-          whole = λ u v h e. colour u h ∙ sym (colour v (same_low ask.valid e h));
+          whole = λ u v h e. colour u h ∙ sym (colour v (same_low ask.ask.valid e h));
           right = λ v h e. absurd (omega (arith, colour v h));
           below = λ v h. omega (arith, colour v h);
         };
         room = omega arith;
-        long = omega (arith, ask.memory.numbers, long);
+        long = omega (arith, ask.ask.memory.numbers, long);
       }
 
   pub started : (kind : ℕ) (list : List ℕ) → L ≡ list_of kind list → Started g kind list w ws w₆ ws'
@@ -121,12 +122,23 @@ module _ (g : Graph) (L : List ℕ) {kinds w w₁ w₂ w₃ w₄ w₅ w₆ ws ws
         };
         whole = record { zero = zeroth; colours = colour; first = refl };
         order = rw (sym e) arranged;
-        blank = blank_zeroed ask.memory.words z;
+        blank = blank_zeroed ask.ask.memory.words z;
         long = long;
         beyond = beyond;
         words_long = z.long;
         words = z.rest;
       }
+
+-- the same where the layout is one that a call gave
+pub started_at : (g : Graph) (at : Layout) (kind : ℕ) (list : List ℕ) {kinds w w₁ w₂ w₃ w₄ w₅ w₆ ws ws' : List ℕ} {k : ℕ} → at ≡ layout_of g → StartAsk g kinds w ws
+    → Both g w w₁ → Ordered at.n (list_of kind list) at.base w₁ w₂
+    → Put at.base at.n (λ j. at.n) w₂ w₃ → Put (at.base + 2 * at.n) at.n (λ j. j + 1) w₃ w₄ → Put (at.base + 3 * at.n) (3 * at.n + 2) (λ j. at.n) w₄ w₅ → Put (at.base + 8 * at.n + 2) 1 (λ j. 0) w₅ w₆
+    → k ≡ words_needed at.n → Zeroed k ws ws' → Started g kind list w ws w₆ ws'
+started_at g at kind list {kinds} {w} {w₁} {w₂} {w₃} {w₄} {w₅} {w₆} {ws} {ws'} {k} e a both =
+    subst (λ (at : Layout). Ordered at.n (list_of kind list) at.base w₁ w₂
+    → Put at.base at.n (λ j. at.n) w₂ w₃ → Put (at.base + 2 * at.n) at.n (λ j. j + 1) w₃ w₄ → Put (at.base + 3 * at.n) (3 * at.n + 2) (λ j. at.n) w₄ w₅ → Put (at.base + 8 * at.n + 2) 1 (λ j. 0) w₅ w₆
+    → k ≡ words_needed at.n → Zeroed k ws ws' → Started g kind list w ws w₆ ws') (sym e)
+    (λ o p q r s f z. started g (list_of kind list) a both o p q r s (subst (λ (x : ℕ). Zeroed x ws ws') f z) kind list refl)
 
 -- at the beginning no component has its label
 pub rings_begin : (g : Graph) (b : ℕ) (w : List ℕ) → ((v : ℕ) → v < g.n → col b w v ≡ g.n) → rings g b w ≤ 0

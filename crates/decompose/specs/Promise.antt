@@ -1,5 +1,5 @@
 -- The decomposer as callers see it.
-use Rattle.std.specs.Prelude.{ℕ, ◌*◌, ◌≤◌, ◌<◌, ◌≡◌, cond, not, ◌||◌, List, [], length, get_or, eqb, ltb}
+use Rattle.std.specs.Prelude.{ℕ, ◌*◌, ◌≤◌, ◌<◌, ◌≡◌, cond, not, ◌||◌, Result, Ok, Err, List, [], length, get_or, eqb, ltb}
 use Rattle.graph.specs.Graph.{Graph, table}
 use Rattle.graph.specs.Limits.{numbers_needed, words_needed, wrong_length, memory_short, list_short, unknown_choice}
 use Rattle.memory.specs.Memory.{Zeroed}
@@ -11,8 +11,9 @@ use Rattle.graph.specs.Summary.{summary}
 use Rattle.waiting.specs.declared.Part.{Part}
 use Rattle.waiting.specs.Records.{none}
 use Rattle.pivot.specs.declared.chooser.Chooser.{Chooser}
-use Rattle.decompose.specs.declared.finish.Answer.{Answer}
-use Rattle.decompose.specs.declared.finish.Answer.TheVariants.{Done, Refused}
+use Rattle.graph.specs.declared.refusal.Refusal.{Refusal}
+use Rattle.graph.specs.declared.table.Table.{Table}
+use Rattle.graph.specs.Reasons.{number_of, said}
 
 -- all that the decomposer is given
 pub record Call : Type 0 where
@@ -33,6 +34,10 @@ pub record Call : Type 0 where
 abbrev pub call : (n : ℕ) (sources targets kinds : List ℕ) (mask method order : ℕ) (chooser : Chooser) (list : List ℕ) (waiting : List Part) (label numbers words : List ℕ) → Call
 call n sources targets kinds mask method order chooser list waiting label numbers words =
     record { n = n; sources = sources; targets = targets; kinds = kinds; mask = mask; method = method; order = order; chooser = chooser; list = list; waiting = waiting; label = label; numbers = numbers; words = words }
+
+-- a call on a lent table
+abbrev pub call_on : Table → (method order : ℕ) → Chooser → List ℕ → List Part → (label numbers words : List ℕ) → Call
+call_on t = call t.n t.sources.now t.targets.now t.kinds.now t.mask
 
 -- the call's table: edges of a kind in the mask count
 abbrev pub collection : Call → Graph
@@ -70,11 +75,6 @@ pub record After : Type 0 where
 abbrev pub after : Chooser → List Part → (label numbers words : List ℕ) → After
 after chooser waiting label numbers words = record { chooser = chooser; waiting = waiting; label = label; numbers = numbers; words = words }
 
--- the number of an answer
-abbrev pub number_of : Answer → ℕ
-number_of (Done d) = 0
-number_of (Refused k) = k
-
 -- the first k records are zeros, and those beyond as they were
 pub record Emptied (k : ℕ) (ys ys' : List Part) : Type 0 where
   pub long : length ys' ≡ length ys
@@ -105,14 +105,14 @@ pub record Untouched (c : Call) (a : After) (k : ℕ) : Type 0 where
   pub numbers : a.numbers ≡ c.numbers
   pub words : a.words ≡ c.words
 
-abbrev pub Gives : Graph → Call → After → Answer → Type 0
-Gives g c a (Done d) = Finished g c a d
-Gives g c a (Refused k) = Untouched c a k
+abbrev pub Gives : Graph → Call → After → Result ℕ Refusal → Type 0
+Gives g c a (Ok d) = Finished g c a d
+Gives g c a (Err r) = Untouched c a (number_of r)
 
 -- the promise for a collection g, where the table check gives k
-pub record PromiseOn (k : ℕ) (g : Graph) (c : Call) (a : After) (r : Answer) : Type 0 where
-  pub refusal : number_of r ≡ refusal_on k c
+pub record PromiseOn (k : ℕ) (g : Graph) (c : Call) (a : After) (r : Result ℕ Refusal) : Type 0 where
+  pub refusal : said r ≡ refusal_on k c
   pub gives : Gives g c a r
 
-abbrev pub Promise : Call → After → Answer → Type 0
+abbrev pub Promise : Call → After → Result ℕ Refusal → Type 0
 Promise c = PromiseOn (table_refusal c.n c.sources c.targets c.kinds) (collection c) c

@@ -10,15 +10,17 @@ use Rattle.waiting.specs.declared.Part.{Part}
 use Rattle.waiting.specs.Records.{none}
 use Rattle.pivot.specs.Order.{Arranged}
 use Rattle.pivot.specs.declared.chooser.Chooser.{Chooser}
+use Rattle.sweep.specs.Methods.{slicing_of}
 use Rattle.machine.specs.declared.Machine.{Machine}
-use Rattle.machine.specs.Aim.{ring, aim, goes}
+use Rattle.machine.specs.Orders.{order_of}
+use Rattle.machine.specs.Aim.{ring, aim}
 use Rattle.machine.specs.Waits.{Waits, waiting_count, first_of}
 use Rattle.parts.specs.Divide.{Blank}
 use Rattle.machine.specs.Machine.{base, Whole}
 
 -- the whole collection has still to be sliced
 pub record Unsliced (n b : ℕ) (ys : List Part) (num : List ℕ) (s : Machine) : Type 0 where
-  pub one : s.slicing ≡ 1
+  pub one : slicing_of s.method ≡ 1
   pub alone : waiting_count s ≡ 1
   pub whole : Whole n b (first_of n b ys num s 0) s.top num
   pub made : s.made ≡ 0
@@ -35,8 +37,8 @@ pub record Running (g : Graph) (c : Chooser) (ys : List Part) (num wor : List �
   pub early : s.cleared < g.n → s.count ≡ 0
   pub zeros : (j : ℕ) → j < s.cleared → ((i : ℕ) → i < s.count → ring g.n s i ≡ j → ⊥) → get_or ys j none ≡ none
   -- only the whole collection is ever to be sliced
-  pub flags : (i : ℕ) → i < s.count → (get_or ys (ring g.n s i) none).slicing ≡ s.slicing
-  pub whole : (s.slicing ≡ 0) ⊎ Unsliced g.n (base g) ys num s
+  pub flags : (i : ℕ) → i < s.count → (get_or ys (ring g.n s i) none).slicing ≡ slicing_of s.method
+  pub whole : (slicing_of s.method ≡ 0) ⊎ Unsliced g.n (base g) ys num s
   pub waits : Waits g (base g) s.top (waiting_count s) (first_of g.n (base g) ys num s) num
   pub blank : Blank g.n wor
   -- kind 1 draws for each component of two or more, and at most twice for each vertex; the others never
@@ -46,18 +48,17 @@ pub record Running (g : Graph) (c : Chooser) (ys : List Part) (num wor : List �
   -- the machine's chooser is a copy of the one lent, advanced by the draws made
   pub kind : s.chooser.kind ≡ c.kind
   pub state : s.chooser.state ≡ draws s.made c.state
-  pub going : s.go ≡ goes g.n s
-  pub reading : s.read ≡ aim g.n s
+  pub aiming : s.next ≡ aim g.n s
 
 -- The course from the whole to what stands: the colours, and the parts that wait, each by the colour of its first place. Kind 1 has drawn once for every choice.
 pub record Traced (g : Graph) (method : ℕ) (c : Chooser) (list : List ℕ) (ys : List Part) (num : List ℕ) (s : Machine) : Type 0 where
   pub known : c.kind ≤ 2
   pub order : Arranged g.n (list_of c.kind list) (ord g.n (base g) num)
   pub choices : ℕ
-  pub course : Course g method s.order c.kind c.state list s.slicing (col (base g) num) s.top (waiting_count s) (λ i. own g.n (base g) num (first_of g.n (base g) ys num s i)) choices
+  pub course : Course g method (order_of s.order) c.kind c.state list (slicing_of s.method) (col (base g) num) s.top (waiting_count s) (λ i. own g.n (base g) num (first_of g.n (base g) ys num s i)) choices
   pub drawn : s.made ≡ cond (eqb c.kind 1) choices 0
 
--- What stays through turns: records beyond n, memory beyond what is needed, the refusal and the slice order.
+-- What stays through turns: records beyond n, memory beyond what is needed, and the slice order.
 pub record Went (n m : ℕ) (ys : List Part) (num wor : List ℕ) (s : Machine) (ys' : List Part) (num' wor' : List ℕ) (e : Machine) : Type 0 where
   pub long : length ys' ≡ length ys
   pub list : (j : ℕ) → n ≤ j → get_or ys' j none ≡ get_or ys j none
@@ -65,5 +66,4 @@ pub record Went (n m : ℕ) (ys : List Part) (num wor : List ℕ) (s : Machine) 
   pub numbers : (j : ℕ) → numbers_needed n m ≤ j → get_or num' j 0 ≡ get_or num j 0
   pub words_long : length wor' ≡ length wor
   pub words : (j : ℕ) → words_needed n ≤ j → get_or wor' j 0 ≡ get_or wor j 0
-  pub refusal : e.refusal ≡ s.refusal
   pub order : e.order ≡ s.order

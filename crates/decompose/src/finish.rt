@@ -1,31 +1,13 @@
-// The end of a decomposition: the colours become the label column, and the working memory is zeroed.
+// The end of a decomposition.
 ghost use Rattle.decompose.specs.Finish.{FinishAsk, Ended};
 
-use machine::Machine;
+use memory::layout::Layout;
 
-#[derive(Clone, Copy)]
-pub enum Answer {
-    Done { draws: usize },
-    Refused(u32),
-}
-
-// The answer of the machine.
-pub fn finish(
-    n: usize,
-    edges: usize,
-    label: &mut [u32],
-    numbers: &mut [u32],
-    words: &mut [u64],
-    s: Machine,
-) -> Answer
-    requires { FinishAsk n edges label.old numbers.old words.old s }
-    ensures { Ended n edges label.old numbers.old words.old s label.new numbers.new words.new result }
+// The colours become the label column, and the working memory is zeroed.
+pub fn finish(w: &mut [u32], words: &mut [u64], at: Layout, label: &mut [u32])
+    requires { FinishAsk at.n at.m at.base label.old w.old words.old }
+    ensures { Ended at.n at.m at.base label.old w.old words.old label.new w.new words.new }
 {
-    let k = s.refusal;
-    if k != 0 {
-        return Answer::Refused(k);
-    }
-    memory::copy(numbers, 2 * (n + 1 + edges), label);
-    memory::clear(n, edges, numbers, words);
-    Answer::Done { draws: s.made }
+    memory::copy(w, at.base, label);
+    memory::clear(at.n, at.m, w, words);
 }

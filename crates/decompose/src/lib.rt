@@ -1,24 +1,23 @@
 // The decomposer: the collection is taken apart into its components, and each vertex gets its label.
 #![tactic(auto)]
 
-ghost use Rattle.decompose.specs.Promise.{call, after, Promise};
+ghost use Rattle.decompose.specs.Promise.{call_on, after, Promise};
 
-use finish::Answer;
+use accept::Choice;
+use graph::refusal::Refusal;
+use graph::table::Table;
 use pivot::chooser::Chooser;
 use waiting::Part;
 
+mod accept;
 mod begin;
-pub mod finish;
+mod finish;
 pub mod plain;
 mod turns;
 
-// The labels by method 0 or 1. Parts wait on the lent list; pivots are drawn on a copy of the chooser, and the lent one is advanced after.
+// The labels by method 0 or 1, and the number of draws. Parts wait on the lent list; pivots are drawn on a copy of the chooser, and the lent one is advanced after.
 pub fn decompose(
-    n: usize,
-    sources: &[u32],
-    targets: &[u32],
-    kinds: &[u8],
-    mask: u8,
+    table: &Table,
     method: u32,
     order: u32,
     chooser: &mut Chooser,
@@ -27,26 +26,15 @@ pub fn decompose(
     label: &mut [u32],
     numbers: &mut [u32],
     words: &mut [u64],
-) -> Answer
-    ensures { Promise (call n sources.now targets.now kinds.now mask method order chooser.old list.now waiting.old label.old numbers.old words.old) (after chooser.new waiting.new label.new numbers.new words.new) result }
+) -> Result<usize, Refusal>
+    ensures { Promise (call_on table.now method order chooser.old list.now waiting.old label.old numbers.old words.old) (after chooser.new waiting.new label.new numbers.new words.new) result }
 {
-    let c = pivot::chooser::copy(chooser);
-    let s = begin::begin(
-        n,
-        sources,
-        targets,
-        kinds,
-        mask,
-        method,
-        order,
-        c,
-        list,
-        waiting.len(),
-        label.len(),
-        numbers,
-        words,
-    );
-    let e = turns::drive(n, sources.len(), waiting, numbers, words, s);
-    pivot::chooser::put(chooser, e.chooser);
-    finish::finish(n, sources.len(), label, numbers, words, e)
+    accept::accept(table, label, waiting, numbers, words)?;
+    let choice = Choice::read(method, order, chooser.kind)?;
+    let at = begin::layout(table);
+    let begun = begin::begin(table, choice, *chooser, list, numbers, words);
+    let ended = turns::drive(numbers, words, at, waiting, begun);
+    *chooser = ended.chooser;
+    finish::finish(numbers, words, at, label);
+    Ok(ended.made)
 }

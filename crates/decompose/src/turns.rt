@@ -2,28 +2,25 @@
 ghost use Rattle.graph.specs.Arrows.{SomeOf, EveryOf};
 ghost use Rattle.decompose.specs.Turns.{DriveAsk, Driven};
 
-use machine::{Machine, step};
+use machine::Machine;
+use memory::layout::Layout;
 use waiting::Part;
 
 // Turns until nothing is left to do: a record is read, the machine steps, and a record is put there.
 pub fn drive(
-    n: usize,
-    m: usize,
-    parts: &mut [Part],
-    numbers: &mut [u32],
+    w: &mut [u32],
     words: &mut [u64],
+    at: Layout,
+    parts: &mut [Part],
     begun: Machine,
 ) -> Machine
-    requires { SomeOf n m (λ g. DriveAsk g parts.old numbers.old words.old begun) }
-    ensures { EveryOf n m (λ g. DriveAsk g parts.old numbers.old words.old begun → Driven g parts.old numbers.old words.old begun parts.new numbers.new words.new result) }
+    requires { SomeOf at.n at.m (λ g. DriveAsk g at.base parts.old w.old words.old begun) }
+    ensures { EveryOf at.n at.m (λ g. DriveAsk g at.base parts.old w.old words.old begun → Driven g parts.old w.old words.old begun parts.new w.new words.new result) }
 {
     let mut s = begun;
-    while 0 < s.go {
-        let i = s.read;
-        let p = waiting::at(parts, i);
-        let e = step::step(n, m, numbers, words, p, s);
-        waiting::put(parts, i, e.part);
-        s = e;
+    while let Some(i) = s.next {
+        s = s.step(w, words, at, parts[i]);
+        parts[i] = s.part;
     }
     s
 }

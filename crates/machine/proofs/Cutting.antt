@@ -6,19 +6,33 @@ use mathlib.Core.Path.{◌≡◌, ◌∙◌}
 use mathlib.Core.List.{List}
 use borrow.Author.Tests.{eq-eqb, ne_eqb}
 use Rattle.graph.specs.Graph.{Graph}
-use Rattle.parts.specs.Divide.{MethodAsk, Division}
+use Rattle.parts.specs.Divide.{Division}
 use Rattle.waiting.specs.declared.Part.{Part}
+use mathlib.Core.Bool.{cond}
+use lib.Dec.{eqb}
+use Rattle.sweep.specs.declared.Method.{Method}
+use Rattle.sweep.specs.declared.Method.TheVariants.{Split, Slice}
+use Rattle.sweep.specs.Methods.{slicing_of}
 use Rattle.machine.specs.declared.Machine.{Machine}
-use Rattle.machine.specs.Machine.{base, CutAsk, ClearAsk, PartAsk, older_than}
+use Rattle.machine.specs.declared.Order.{Order}
+use Rattle.machine.specs.declared.Order.TheVariants.{Newest, Oldest}
+use Rattle.machine.specs.Orders.{order_of}
+use Rattle.machine.specs.Machine.{slicing, CutAsk, ClearAsk, PartAsk, older_than}
 use Rattle.machine.specs.Aim.{wrapped}
 use Rattle.machine.proofs.Round.{wrapped_low}
 
--- method 1 is asked only for the one part
-pub cut_ask : {g : Graph} {b slicing : ℕ} {p : Part} {top : ℕ} {w ws : List ℕ} → (slicing ≡ 1 → p.slicing ≡ 1) → CutAsk g b p top w ws → MethodAsk g slicing b p.first top w ws
-cut_ask o a = record { ask = a.ask; only = λ e. (a.whole (o e)).first }
+-- a method's number is at most 1
+pub method_low : (m : Method) → slicing_of m ≤ 1
+method_low Split = omega arith
+method_low Slice = omega arith
+
+-- a record that has a method's number is divided by it
+pub slicing_same : (p : Part) (m : Method) → p.slicing ≡ slicing_of m → slicing p ≡ slicing_of m
+slicing_same p Split e = rw e
+slicing_same p Slice e = rw e
 
 -- the part of the record that is taken can be divided
-pub taken_part : {g : Graph} {p : Part} {s : Machine} {w ws : List ℕ} → PartAsk g p s w ws → CutAsk g (base g) p s.top w ws
+pub taken_part : {g : Graph} {b : ℕ} {p : Part} {s : Machine} {w ws : List ℕ} → PartAsk g b p s w ws → CutAsk g b p s.top w ws
 taken_part a = (a.ask.part a.cleared a.given).1
 
 -- kind 1 draws for every pivot, the others never
@@ -36,13 +50,14 @@ module _ {g : Graph} {slicing b kind state h top : ℕ} {w ws w' ws' : List ℕ}
   drawn_most = omega (arith, drawn_few, v.most)
 
 pub older_low : (n : ℕ) (s : Machine) → ClearAsk n s → older_than n s < n
-older_low n s a = elim (ℕ_discrete s.order 0) as (λ _. older_than n s < n) [
-  | yes q ↦ rw (eq-eqb s.order 0 q) a.oldest
-  | no q ↦ rw (ne_eqb s.order 0 q) (let o = a.oldest in go o)
-]
+older_low n s a = of s.order
   where
-    go : s.oldest < n → wrapped n (s.oldest + 1) < n
-    go o = elim (ℕ_discrete n 1) as (λ _. wrapped n (s.oldest + 1) < n) [
+    after : s.oldest < n → wrapped n (s.oldest + 1) < n
+    after o = elim (ℕ_discrete n 1) as (λ _. wrapped n (s.oldest + 1) < n) [
       | yes q ↦ wrapped_low n (s.oldest + 1) (omega arith)
       | no q ↦ wrapped_low n (s.oldest + 1) (omega arith)
     ]
+
+    of : (o : Order) → cond (eqb (order_of o) 0) s.oldest (wrapped n (s.oldest + 1)) < n
+    of Newest = a.oldest
+    of Oldest = after a.oldest

@@ -1,3 +1,4 @@
+pub mod Orders
 pub mod Round
 pub mod Waiting
 pub mod Aiming

@@ -1,3 +1,4 @@
+pub mod Orders
 pub mod Aim
 pub mod Waits
 pub mod Machine

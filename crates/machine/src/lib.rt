@@ -2,25 +2,52 @@
 #![tactic(auto)]
 
 ghost use Rattle.std.specs.Prelude.{◌≡◌};
-ghost use Rattle.machine.specs.Aim.{AimAsk, wrapped, aim as aim_of, goes as goesOf, aimed as aimedAt};
+ghost use Rattle.machine.specs.Orders.{Reads};
+ghost use Rattle.machine.specs.Aim.{AimAsk, wrapped, aim as aim_of, aimed as aimed_of};
 
+use graph::refusal::Refusal;
 use pivot::chooser::Chooser;
+use sweep::Method;
 use waiting::Part;
 
 pub mod step;
 
+// The record that stands where no part waits.
+pub const NONE: Part = Part {
+    first: 0,
+    slicing: 0,
+};
+
+// Which of the waiting parts is taken.
+#[derive(Clone, Copy, Debug, PartialEq, Eq)]
+pub enum Order {
+    Newest,
+    Oldest,
+}
+
+impl TryFrom<u32> for Order {
+    type Error = Refusal;
+
+    ghost try_from_gives = { Reads };
+
+    fn try_from(order: u32) -> Result<Order, Refusal> {
+        match order {
+            0 => Ok(Order::Newest),
+            1 => Ok(Order::Oldest),
+            _ => Err(Refusal::UnknownChoice),
+        }
+    }
+}
+
 #[derive(Clone, Copy)]
 pub struct Machine {
-    // 0 when nothing is left to do
-    pub go: usize,
-    // the place of the list that the next turn takes, and what the last turn put
-    pub read: usize,
+    // the place of the list that the next turn takes, None when nothing is left to do; and what the last turn put
+    pub next: Option<usize>,
     pub part: Part,
     // a copy of the lent chooser, advanced by the draws made
     pub chooser: Chooser,
     pub made: usize,
-    pub refusal: u32,
-    pub order: u32,
+    pub order: Order,
     // the records set to zeros, the place of the oldest record, and how many wait
     pub cleared: usize,
     pub oldest: usize,
@@ -28,13 +55,13 @@ pub struct Machine {
     // the pending parts: those on the list already, and all of them
     pub given: usize,
     pub pending: usize,
-    // 1 while method 1 has still to slice the whole
-    pub slicing: u32,
+    // Slice while the whole has still to be sliced
+    pub method: Method,
     // the first colour that no part has
     pub top: usize,
 }
 
-// Place x, going round over n places.
+// Place x, going round over n places. A remainder is no plainer: it divides, and asks 0 < n and x < 2 n of every caller.
 fn wrap(n: usize, x: usize) -> usize
     ensures { result ≡ wrapped n x }
 {
@@ -44,51 +71,35 @@ fn wrap(n: usize, x: usize) -> usize
     x - n
 }
 
-// The place that the next turn takes: one to clear, a free one for a pending part, or the record whose turn it is.
-fn aim(n: usize, s: Machine) -> usize
-    requires { AimAsk s }
-    ensures { result ≡ aim_of n s }
-{
-    if s.cleared < n {
-        return s.cleared;
+impl Machine {
+    // The place that the next turn takes: one to clear, a free one for a pending part, or the record whose turn it is.
+    fn aim(self, n: usize) -> Option<usize>
+        requires { AimAsk self }
+        ensures { result ≡ aim_of n self }
+    {
+        if self.cleared < n {
+            return Some(self.cleared);
+        }
+        if self.given < self.pending {
+            return Some(wrap(n, self.oldest + self.count));
+        }
+        if self.count == 0 {
+            return None;
+        }
+        match self.order {
+            Order::Newest => Some(wrap(n, self.oldest + (self.count - 1))),
+            Order::Oldest => Some(self.oldest),
+        }
     }
-    if s.given < s.pending {
-        return wrap(n, s.oldest + s.count);
-    }
-    if s.count == 0 {
-        return s.oldest;
-    }
-    if s.order != 0 {
-        return s.oldest;
-    }
-    wrap(n, s.oldest + (s.count - 1))
-}
 
-// 1 if there is something to do.
-fn goes(n: usize, s: Machine) -> usize
-    ensures { result ≡ goesOf n s }
-{
-    if s.cleared < n {
-        return 1;
+    // The machine ready for its next turn.
+    pub fn aimed(self, n: usize) -> Machine
+        requires { AimAsk self }
+        ensures { result ≡ aimed_of n self }
+    {
+        Machine {
+            next: self.aim(n),
+            ..self
+        }
     }
-    if s.given < s.pending {
-        return 1;
-    }
-    if 0 < s.count {
-        return 1;
-    }
-    0
-}
-
-// The machine ready for its next turn.
-pub fn aimed(n: usize, s: Machine) -> Machine
-    requires { AimAsk s }
-    ensures { result ≡ aimedAt n s }
-{
-    let go = goes(n, s);
-    let read = aim(n, s);
-    let mut e = s;
-    e.go = go;
-    e.read = read;
-    e
 }

@@ -290,9 +290,6 @@ pub record Rising (n b k₀ v k : ℕ) (w w' : List ℕ) : Type 0 where
   pub below : (u : ℕ) → u < v → marked b w' u ≡ 1
   pub leads : (list : List ℕ) → Leads n list k₀ (ord n b w) (least n) → Leads n list k (ord n b w') (least n)
 
-pub rising_begin : {b n k : ℕ} {w : List ℕ} → Room n b w → Filling n k (marked b w) (ord n b w) → Rising n b k 0 k w w
-rising_begin {b} {n} {k} {w} room f = record { room = room; beside = beside_none n b w; filling = f; below = λ u l. absurd (not-suc-le-zero l); leads = λ list d. d }
-
 pub rising_step : {b n k₀ v k : ℕ} {w w₁ w₂ : List ℕ} {r : ℕ} → v < n → Rising n b k₀ v k w w₁ → Placed n b k v w₁ w₂ r → Rising n b k₀ (v + 1) r w w₂
 rising_step {b} {n} {k₀} {v} {k} {w} {w₁} {w₂} {r} l s p =
     let t = place_step s.room s.filling p in

@@ -1,4 +1,4 @@
-// The chooser: a kind of pivot and a 32-bit state, lent by `&mut`.
+// The chooser: the number of a kind of pivots and a 32-bit state, lent by `&mut`, also from C.
 ghost use Rattle.std.specs.Prelude.{◌≡◌, eqb};
 ghost use Rattle.graph.specs.Pivot.{draw as drawn};
 ghost use Rattle.pivot.specs.Kinds.{Reads};

@@ -34,11 +34,11 @@ fn counts(table: &Table, label: &[u32], w: &mut [u32], base: usize)
         base,
     };
     memory::fill(w, base + COUNTS * at.n, at.n + 1, 0);
-    let sources = table.sources;
-    let targets = table.targets;
-    for e in 0..sources.len() {
-        let u = sources[e] as usize;
-        let v = targets[e] as usize;
+    // a copy stays in registers, where what is behind a reference is read again after each write to w
+    let table = *table;
+    for e in 0..table.sources.len() {
+        let u = table.sources[e] as usize;
+        let v = table.targets[e] as usize;
         let t = lead(w, at, label, u, v, e);
         let counts = table.counts(e);
         w[base + COUNTS * at.n + t] += u32::from(counts);

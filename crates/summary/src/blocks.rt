@@ -95,11 +95,8 @@ pub fn all(label: &[u32]) -> Totals
 {
     let n = label.len();
     let mut totals = NOTHING;
-    let mut low = 0;
-    while low < n {
-        let k = BLOCK.min(n - low);
-        totals = totals.and(block(label, low, k));
-        low += k;
+    for low in (0..n).step_by(BLOCK) {
+        totals = totals.and(block(label, low, BLOCK.min(n - low)));
     }
     totals
 }

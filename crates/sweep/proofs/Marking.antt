@@ -2,7 +2,7 @@
 use Prim.Native.Nat.{ℕ, zero, suc, ◌+◌, ◌≤◌, ◌<◌}
 use native.Mathlib.Omega.{arith}
 use native.Mathlib.Decide.{ℕ_discrete, dec_lt}
-use mathlib.Core.Path.{◌≡◌, refl, sym, ap, ◌∙◌}
+use mathlib.Core.Path.{◌≡◌, sym, ap, ◌∙◌}
 use mathlib.Core.Logic.{◌⊎◌, inl, inr, ⊎_elim}
 use mathlib.Core.Bool.{cond}
 use mathlib.Core.List.{List}
@@ -25,9 +25,6 @@ tally_at f (suc n) x h = elim (ℕ_discrete x n) as (λ _. f x ≤ tally f n + f
 
 -- THE QUEUE IS TAKEN OUT
 module _ {n b : ℕ} {w : List ℕ} {k : ℕ} {ws : List ℕ} {size : ℕ} (a : EraseAsk n b w k ws size) where
-  pub erase_none : Erased n b w 0 ws ws size
-  erase_none = record { long = refl; gone = λ i h. absurd (omega arith); else = λ v o. refl; size = a.size }
-
   module _ {i : ℕ} (h : i < k) {ws₁ : List ℕ} {left : ℕ} (z : Erased n b w i ws ws₁ left) where
     pub strike_ask : StrikeAsk (que n b w i) ws₁ left
     strike_ask = record {

@@ -16,7 +16,58 @@ struct Course {
     top: usize,
 }
 
-// `chain::take`, where the set loses what each search has painted.
+// `split::split`, where the set loses what each search has painted. Not one function with it: a search passed in would bring a trait with a law on sets into its contract.
+fn split(w: &mut [u32], words: &mut [u64], at: Layout, p: usize, q: u32, now: Course) -> Course
+    requires { SomeOf at.n at.m (λ g. PickAsk g 0 at.base p q now.top w.old words.old now.left) }
+    ensures picked { EveryOf at.n at.m (λ g. PickAsk g 0 at.base p q now.top w.old words.old now.left → Picked g 0 at.base p q now.top w.old w.new words.new result.left result.top) }
+    ensures state { result.state ≡ now.state }
+{
+    let f = now.top as u32;
+    let reached = Map {
+        a: q,
+        a2: f,
+        c: q,
+        c2: f,
+    };
+    let reaching = Map {
+        a: q,
+        a2: f + 1,
+        c: f,
+        c2: f + 2,
+    };
+    let s = set::search(w, words, at.forward(), p, reached, now.left);
+    let t = set::search(w, words, at.backward(), p, reaching, s.left);
+    split::label(w, at, t.k, f + 2);
+    Course {
+        left: t.left,
+        top: now.top + 2,
+        ..now
+    }
+}
+
+// `slices::slice::slice`, where the set loses what the search has painted.
+fn slice(w: &mut [u32], words: &mut [u64], at: Layout, p: usize, q: u32, now: Course) -> Course
+    requires { SomeOf at.n at.m (λ g. PickAsk g 1 at.base p q now.top w.old words.old now.left) }
+    ensures picked { EveryOf at.n at.m (λ g. PickAsk g 1 at.base p q now.top w.old words.old now.left → Picked g 1 at.base p q now.top w.old w.new words.new result.left result.top) }
+    ensures state { result.state ≡ now.state }
+{
+    let r = (5 * at.n + 5) as u32;
+    let reached = Map {
+        a: q,
+        a2: r,
+        c: q,
+        c2: r,
+    };
+    let s = set::search(w, words, at.forward(), p, reached, now.left);
+    slices::seeds::mark(w, at, p, r, 0);
+    Course {
+        left: s.left,
+        top: slices::slice::cuts(w, at, r, now.top),
+        ..now
+    }
+}
+
+// The pivot p is taken in the part q, of which the set is what is left.
 fn take(
     w: &mut [u32],
     words: &mut [u64],
@@ -31,46 +82,8 @@ fn take(
     ensures state { result.state ≡ now.state }
 {
     match method {
-        Method::Split => {
-            let f = now.top as u32;
-            let reached = Map {
-                a: q,
-                a2: f,
-                c: q,
-                c2: f,
-            };
-            let reaching = Map {
-                a: q,
-                a2: f + 1,
-                c: f,
-                c2: f + 2,
-            };
-            let s = set::search(w, words, at.forward(), p, reached, now.left);
-            let t = set::search(w, words, at.backward(), p, reaching, s.left);
-            split::label(w, at, t.k, f + 2);
-            Course {
-                left: t.left,
-                top: now.top + 2,
-                ..now
-            }
-        }
-        Method::Slice => {
-            let r = (5 * at.n + 5) as u32;
-            let reached = Map {
-                a: q,
-                a2: r,
-                c: q,
-                c2: r,
-            };
-            let s = set::search(w, words, at.forward(), p, reached, now.left);
-            slices::seeds::mark(w, at, p, r, 0);
-            let t = slices::slice::cuts(w, at, r, now.top);
-            Course {
-                left: s.left,
-                top: t,
-                ..now
-            }
-        }
+        Method::Split => split(w, words, at, p, q, now),
+        Method::Slice => slice(w, words, at, p, q, now),
     }
 }
 

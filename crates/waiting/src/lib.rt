@@ -7,6 +7,6 @@
 pub struct Part {
     // its first place in the order of the pivots, not a vertex
     pub first: u32,
-    // 1 if method 1 has still to slice it
+    // 1 if method 1 has still to slice it: a number, as C lends it
     pub slicing: u32,
 }

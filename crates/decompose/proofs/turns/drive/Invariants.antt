@@ -6,7 +6,7 @@ use Rattle.decompose.proofs.turns.drive.Given as goal
 -- the machine has run from the lent list and memory to what they are now
 abbrev pub invariant-loop-s : goal.invariant-loop-s
 invariant-loop-s l =
-    EveryOf l.n l.m (λ g. DriveAsk g l.initial.parts l.initial.numbers l.initial.words l.initial.s → Ran g l.initial.parts l.initial.numbers l.initial.words l.initial.s l.parts l.numbers l.words l.s)
+    EveryOf l.at.n l.at.m (λ g. DriveAsk g l.at.base l.initial.parts l.initial.w l.initial.words l.initial.s → Ran g l.initial.parts l.initial.w l.initial.words l.initial.s l.parts l.w l.words l.s)
 
 abbrev pub decreases-loop-s : goal.decreases-loop-s
-decreases-loop-s l = togo l.n l.m l.numbers l.s
+decreases-loop-s l = togo l.at.n l.at.m l.w l.s

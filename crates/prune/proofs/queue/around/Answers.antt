@@ -1,8 +1,9 @@
+use Prim.Native.Nat.{◌+◌}
 use native.Mathlib.Omega.{arith}
 use mathlib.Core.Path.{◌≡◌}
-use Rattle.prune.proofs.Rounds.{around_ask, around_step}
 use lib.ListN.{get_or}
-use Prim.Native.Nat.{◌+◌}
+use Rattle.prune.proofs.Tables.{kept_more}
+use Rattle.prune.proofs.Rounds.{around_ask, around_step}
 use Rattle.prune.proofs.queue.around.Goals as goal
 
 pub examine-k-requires : goal.examine-k-requires
@@ -12,11 +13,10 @@ examine-k-requires c =
 
 pub loop-i-preserved : goal.loop-i-preserved
 loop-i-preserved c =
-    let ((g, (s, z)), f) = c.loop-i.invariant in
     let l = c.loop-i.auto.i in
     let h = c.loop-i-test.true in
     let y = rw (c.leaving-leaving.ensures, c.entering-entering.ensures) at c.examine-k.ensures in
-    ((g, (s, around_step s.1 z l h (y g (around_ask s.1 z l h)))), λ g s. let z = f g s in around_step s.1 z l h (y g (around_ask s.1 z l h)))
+    kept_more c.loop-i.invariant (λ g s z. around_step s.1 z l h (y g (around_ask s.1 z l h)))
 
 pub returns : goal.returns
 returns c =

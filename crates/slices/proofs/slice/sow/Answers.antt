@@ -1,10 +1,11 @@
 use native.Mathlib.Omega.{arith}
 use mathlib.Core.Path.{◌≡◌}
+use Rattle.prune.proofs.Tables.{kept_none, kept_more}
 use Rattle.slices.proofs.Cutting.{sow_none, sow_visit, sow_step}
 use Rattle.slices.proofs.slice.sow.Goals as goal
 
 pub loop-i-init : goal.loop-i-init
-loop-i-init c = let (x, a) = c.requires in ((x, (a, sow_none a)), λ g a. sow_none a)
+loop-i-init c = kept_none c.requires (λ x a. sow_none a)
 
 pub visit-k-requires : goal.visit-k-requires
 visit-k-requires c =
@@ -13,11 +14,8 @@ visit-k-requires c =
 
 pub loop-i-preserved : goal.loop-i-preserved
 loop-i-preserved c =
-    let ((x, (a, z)), f) = c.loop-i.invariant in
-    let t = c.loop-i-test.true in
-    let l = c.loop-i.auto.i in
     let y = rw (c.forward-forward.ensures, c.change-map.ensures, c.seeds-seeds.ensures) at c.visit-k.ensures in
-    ((x, (a, sow_step a t l z y)), λ g a. sow_step a t l (f g a) y)
+    kept_more c.loop-i.invariant (λ x a z. sow_step a c.loop-i-test.true c.loop-i.auto.i z y)
 
 pub returns : goal.returns
 returns c =
