@@ -5,8 +5,8 @@ use native.Mathlib.Decide.{ℕ_discrete, dec_lt}
 use mathlib.Core.Path.{◌≡◌, refl, sym, ap, subst, ◌∙◌}
 use mathlib.Core.Logic.{⊎_elim}
 use mathlib.Core.List.{List, [], ◌∷◌, ◌++◌, append_assoc}
-use lib.ListN.{length, get_or, set, drop, length-set, length-append, length-drop, get_or-append}
-use lib.Seq.{get_or-set_same, get_or-set_other, get_or-drop, ext_get_or}
+use lib.ListN.{length, get_or, set, take, drop, length-set, length-append, length-take, length-drop, get_or-append}
+use lib.Seq.{get_or-set_same, get_or-set_other, get_or-take, get_or-drop, ext_get_or}
 use Rattle.graph.specs.Graph.{Graph, Edge, Chain, all, rev, edges, from}
 use Rattle.graph.specs.Parts.{only}
 use Rattle.graph.specs.Limits.{most_vertices, most_edges}
@@ -25,7 +25,7 @@ use Rattle.memory.specs.Decomposer.{col}
 use Rattle.paint.specs.Distances.{Nearest, Measured, Has, MeasureAsk}
 use Rattle.paint.proofs.Spreading.{low_chain}
 use Rattle.memory.specs.Memory.{Filled}
-use Rattle.paths.specs.Walk.{reverse, base, source_at, FindAsk, Known, Prepared, FirstAsk, First, WalkAsk, Walked, SettleAsk}
+use Rattle.paths.specs.Walk.{reverse, base, source_of, FindAsk, Known, Prepared, FirstAsk, First, WalkAsk, Walked, SettleAsk}
 use Rattle.paths.proofs.Indexes.{Indexed}
 
 -- THE DISTANCES
@@ -81,18 +81,63 @@ module _ {g : Graph} {kinds : List ℕ} {u : ℕ} {w w₁ : List ℕ} (a : FindA
             record { chain = rw q c'; shortest = λ h c. t.shortest u h refl (every c) }
 
 -- THE FIRST EDGE THAT FITS
--- none of the places before i fits
-pub record Passing (sources w : List ℕ) (eb b d i₀ t i : ℕ) : Type 0 where
-  pub low : i₀ ≤ i
-  pub high : i ≤ t
-  pub before : (j : ℕ) → i₀ ≤ j → j < i → col b w (source_at sources w eb j) ≡ d → ⊥
+-- the edges' numbers stand in w from eb on at the places s .. t - 1, and the colours from b on
+abbrev source_at : List ℕ → List ℕ → ℕ → ℕ → ℕ
+source_at sources w eb j = get_or sources (get_or w (eb + j) 0) 0
 
-pub pass_step : {sources w : List ℕ} {eb b d i₀ t i : ℕ} → i < t → (col b w (source_at sources w eb i) ≡ d → ⊥) → Passing sources w eb b d i₀ t i → Passing sources w eb b d i₀ t (i + 1)
-pass_step {sources} {w} {eb} {b} {d} {i₀} {t} {i} l o z = record {
-  low = omega (arith, z.low);
-  high = omega arith;
-  before = λ j h q. elim (ℕ_discrete j i) as (λ _. col b w (source_at sources w eb j) ≡ d → ⊥) [ yes e ↦ rw e o | no e ↦ z.before j h (omega arith) ];
-}
+record EdgesAt (sources w : List ℕ) (eb b s t : ℕ) : Type 0 where
+  order : s ≤ t
+  fits : eb + t ≤ length w
+  edges : (j : ℕ) → s ≤ j → j < t → get_or w (eb + j) 0 < length sources
+  ends : (j : ℕ) → s ≤ j → j < t → b + source_at sources w eb j < length w
+
+record FirstAt (sources w : List ℕ) (eb b d s t r : ℕ) : Type 0 where
+  low : s ≤ r
+  high : r ≤ t
+  before : (j : ℕ) → s ≤ j → j < r → col b w (source_at sources w eb j) ≡ d → ⊥
+  here : r < t → col b w (source_at sources w eb r) ≡ d
+
+-- the same of the edges and the colours by themselves
+module _ {sources w : List ℕ} {eb b s t : ℕ} (a : EdgesAt sources w eb b s t) where
+  abbrev some : List ℕ
+  some = take (eb + t - (eb + s)) (drop (eb + s) w)
+
+  abbrev colours : List ℕ
+  colours = take (length w - b) (drop b w)
+
+  some_long : length some ≡ t - s
+  some_long = omega (arith, length-take (eb + t - (eb + s)) (drop (eb + s) w), length-drop (eb + s) w, a.order, a.fits)
+
+  some_at : (j : ℕ) → j < length some → get_or some j 0 ≡ get_or w (eb + (s + j)) 0
+  some_at j h =
+      let m : j < eb + t - (eb + s) = omega (arith, some_long, a.order) in
+      get_or-take (eb + t - (eb + s)) (drop (eb + s) w) j 0 m ∙ get_or-drop (eb + s) w j 0 ∙ ap (λ (i : ℕ). get_or w i 0) (omega arith)
+
+  some_source : (j : ℕ) → j < length some → source_of sources some j ≡ source_at sources w eb (s + j)
+  some_source j h = ap (λ (e : ℕ). get_or sources e 0) (some_at j h)
+
+  some_colour : (j : ℕ) → j < length some → get_or colours (source_of sources some j) 0 ≡ col b w (source_at sources w eb (s + j))
+  some_colour j h =
+      let low : source_of sources some j < length w - b = omega (arith, some_source j h, a.ends (s + j) (omega arith) (omega (arith, some_long))) in
+      get_or-take (length w - b) (drop b w) (source_of sources some j) 0 low ∙ get_or-drop b w (source_of sources some j) 0 ∙ ap (col b w) (some_source j h)
+
+  first_ask : FirstAsk sources some colours
+  first_ask = record {
+    known = λ j h. omega (arith, some_at j h, a.edges (s + j) (omega arith) (omega (arith, some_long)));
+    coloured = λ j h. omega (arith, length-take (length w - b) (drop b w), length-drop b w, some_source j h, a.ends (s + j) (omega arith) (omega (arith, some_long)));
+  }
+
+  first_at : {d r : ℕ} → First sources some colours d r → FirstAt sources w eb b d s t (s + r)
+  first_at {d} {r} f = record {
+    low = omega arith;
+    high = omega (arith, some_long, f.most, a.order);
+    before = λ j l h q.
+        let e : s + (j - s) ≡ j = omega arith in
+        let m : j - s < length some = omega (arith, f.most) in
+        let c : get_or colours (source_of sources some (j - s)) 0 ≡ col b w (source_at sources w eb j) = rw e at (some_colour (j - s) m) in
+        f.before (j - s) (omega arith) (c ∙ q);
+    here = λ h. let m : r < length some = omega (arith, some_long) in sym (some_colour r m) ∙ f.here m;
+  }
 
 -- BACK FROM V
 -- the walk has come to x, d steps from u; the rest of the path is written
@@ -155,7 +200,7 @@ module _ {g : Graph} {u v d₀ : ℕ} {w r₀ : List ℕ} (a : WalkAsk g u v d�
     placed : (j : ℕ) → first (rev g) x ≤ j → j < first (rev g) (suc x) → Edge g (get_or w (eb + j) 0) (source_at g.src w eb j) x
     placed j l t = let (y, q, _) = number_at (rev g) k.index x j l t in record { low = y.0; counts = y.1; leaves = refl; enters = q }
 
-    own_ask : FirstAsk g.src w eb (base g) (first (rev g) x) (first (rev g) (suc x))
+    own_ask : EdgesAt g.src w eb (base g) (first (rev g) x) (first (rev g) (suc x))
     own_ask = record {
       order = turn.order;
       fits = omega (arith, turn.last, k.room);
@@ -180,7 +225,7 @@ module _ {g : Graph} {u v d₀ : ℕ} {w r₀ : List ℕ} (a : WalkAsk g u v d�
     place_of : (e y : ℕ) → Edge g e y x → (j : ℕ) × (first (rev g) x ≤ j) × (j < first (rev g) (suc x)) × (get_or w (eb + j) 0 ≡ e)
     place_of e y t = rw t.enters at (number_found (rev g) k.index e (t.low, t.counts))
 
-    module _ {i : ℕ} (f : First g.src w (reverse g + g.n + 1) (base g) d (first (rev g) x) (first (rev g) (suc x)) i) where
+    module _ {i : ℕ} (f : FirstAt g.src w (reverse g + g.n + 1) (base g) d (first (rev g) x) (first (rev g) (suc x)) i) where
       -- an edge that fits does not stand before place i
       not_before : (e y : ℕ) → Edge g e y x → dist_of g u y ≡ d → (j : ℕ) × (i ≤ j) × (j < first (rev g) (suc x)) × (get_or w (eb + j) 0 ≡ e)
       not_before e y t q =
@@ -269,22 +314,43 @@ module _ {g : Graph} {u v d₀ : ℕ} {w r₀ : List ℕ} (a : WalkAsk g u v d�
   pub back_turn : Turn g w x
   back_turn = turn a down
 
-  pub back_ask : FirstAsk g.src w (reverse g + g.n + 1) (base g) (get_or w (reverse g + x) 0) (get_or w (reverse g + x + 1) 0)
-  back_ask = rw (back_turn.begins, back_turn.ends) (own_ask a down)
+  back_at : EdgesAt g.src w (reverse g + g.n + 1) (base g) (get_or w (reverse g + x) 0) (get_or w (reverse g + x + 1) 0)
+  back_at = rw (back_turn.begins, back_turn.ends) (own_ask a down)
 
-  module _ {i : ℕ} (f : First g.src w (reverse g + g.n + 1) (base g) (d - 1) (get_or w (reverse g + x) 0) (get_or w (reverse g + x + 1) 0) i) where
-    same_first : First g.src w (reverse g + g.n + 1) (base g) (d - 1) (first (rev g) x) (first (rev g) (suc x)) i
-    same_first = rw (back_turn.begins, back_turn.ends) at f
+  -- the edges that enter x, and the colours
+  abbrev pub own_edges : List ℕ
+  own_edges =
+      let eb = reverse g + g.n + 1 in
+      take (eb + get_or w (reverse g + x + 1) 0 - (eb + get_or w (reverse g + x) 0)) (drop (eb + get_or w (reverse g + x) 0) w)
+
+  abbrev pub all_colours : List ℕ
+  all_colours = take (length w - base g) (drop (base g) w)
+
+  pub back_order : reverse g + g.n + 1 + get_or w (reverse g + x) 0 ≤ reverse g + g.n + 1 + get_or w (reverse g + x + 1) 0
+  back_order = omega (arith, back_at.order)
+
+  pub back_fits : reverse g + g.n + 1 + get_or w (reverse g + x + 1) 0 ≤ length w
+  back_fits = back_at.fits
+
+  pub back_ask : FirstAsk g.src own_edges all_colours
+  back_ask = first_ask back_at
+
+  module _ {i : ℕ} (f : First g.src own_edges all_colours (d - 1) i) where
+    abbrev place : ℕ
+    place = first (rev g) x + i
+
+    same_first : FirstAt g.src w (reverse g + g.n + 1) (base g) (d - 1) (first (rev g) x) (first (rev g) (suc x)) place
+    same_first = rw (back_turn.begins, back_turn.ends) at (first_at back_at f)
 
     -- the edge stands in the index, and comes from a vertex
-    pub back_place : i < edges g
-    back_place = omega (arith, found a down same_first, back_turn.last)
+    pub back_place : i < length own_edges
+    back_place = omega (arith, some_long back_at, found a down same_first, back_turn.begins, back_turn.ends)
 
-    pub back_edge : get_or w (reverse g + g.n + 1 + i) 0 < edges g
-    back_edge = (own a down same_first).low
+    same_edge : get_or own_edges i 0 ≡ get_or w (reverse g + g.n + 1 + place) 0
+    same_edge = some_at back_at i back_place ∙ ap (λ (j : ℕ). get_or w (reverse g + g.n + 1 + (j + i)) 0) back_turn.begins
 
-    pub back_source : source_at g.src w (reverse g + g.n + 1) i < g.n
-    back_source = edge_from_low a.known.valid (own a down same_first)
+    pub back_edge : get_or own_edges i 0 < edges g
+    back_edge = rw same_edge (own a down same_first).low
 
-    pub back_step : Walking g u v d₀ r₀ (source_at g.src w (reverse g + g.n + 1) i) (d - 1) (set r (d - 1) (get_or w (reverse g + g.n + 1 + i) 0))
-    back_step = own_step a down same_first
+    pub back_step : Walking g u v d₀ r₀ (source_of g.src own_edges i) (d - 1) (set r (d - 1) (get_or own_edges i 0))
+    back_step = rw same_edge (own_step a down same_first)

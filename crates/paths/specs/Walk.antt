@@ -52,23 +52,20 @@ pub record Prepared (g : Graph) (u : ℕ) (w w' : List ℕ) : Type 0 where
   pub high : (j : ℕ) → base g + g.n + g.n ≤ j → get_or w' j 0 ≡ get_or w j 0
   pub known : Known g u w'
 
--- the source of the edge whose number stands at place j; the numbers stand in w from eb on
-abbrev pub source_at : List ℕ → List ℕ → ℕ → ℕ → ℕ
-source_at sources w eb j = get_or sources (get_or w (eb + j) 0) 0
+-- the source of the j-th of some edges
+abbrev pub source_of : (sources edges : List ℕ) → ℕ → ℕ
+source_of sources edges j = get_or sources (get_or edges j 0) 0
 
--- the edge numbers at the places i .. t - 1 stand in w from eb on, the colours from b on
-pub record FirstAsk (sources w : List ℕ) (eb b i t : ℕ) : Type 0 where
-  pub order : i ≤ t
-  pub fits : eb + t ≤ length w
-  pub edges : (j : ℕ) → i ≤ j → j < t → get_or w (eb + j) 0 < length sources
-  pub ends : (j : ℕ) → i ≤ j → j < t → b + source_at sources w eb j < length w
+-- the edges are edges, and their sources have colours
+pub record FirstAsk (sources edges colours : List ℕ) : Type 0 where
+  pub known : (j : ℕ) → j < length edges → get_or edges j 0 < length sources
+  pub coloured : (j : ℕ) → j < length edges → source_of sources edges j < length colours
 
--- r is the first place from i on whose edge comes from a vertex of the colour d, and t if there is none
-pub record First (sources w : List ℕ) (eb b d i t r : ℕ) : Type 0 where
-  pub low : i ≤ r
-  pub high : r ≤ t
-  pub before : (j : ℕ) → i ≤ j → j < r → col b w (source_at sources w eb j) ≡ d → ⊥
-  pub here : r < t → col b w (source_at sources w eb r) ≡ d
+-- the r-th is the first of the edges that comes from a vertex of the colour d, and if there is none r is their number
+pub record First (sources edges colours : List ℕ) (d r : ℕ) : Type 0 where
+  pub most : r ≤ length edges
+  pub before : (j : ℕ) → j < r → get_or colours (source_of sources edges j) 0 ≡ d → ⊥
+  pub here : r < length edges → get_or colours (source_of sources edges r) 0 ≡ d
 
 pub record WalkAsk (g : Graph) (u v d : ℕ) (w room : List ℕ) : Type 0 where
   pub known : Known g u w

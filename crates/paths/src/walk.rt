@@ -27,18 +27,18 @@ pub fn find(table: &Table, u: usize, w: &mut [u32])
     distances::measure(w, along, u, far);
 }
 
-// The first of the places i0 .. t - 1 whose edge comes from a vertex of the colour d, or t.
-fn first(sources: &[u32], w: &[u32], eb: usize, b: usize, i0: usize, t: usize, d: usize) -> usize
-    requires { FirstAsk sources.now w.now eb b i0 t }
-    ensures { First sources.now w.now eb b d i0 t result }
+// The place of the first of the edges that comes from a vertex of the colour d, or their number.
+fn first(sources: &[u32], edges: &[u32], colours: &[u32], d: usize) -> usize
+    requires { FirstAsk sources.now edges.now colours.now }
+    ensures { First sources.now edges.now colours.now d result }
 {
-    for i in i0..t {
-        let x = sources[w[eb + i] as usize] as usize;
-        if w[b + x] as usize == d {
+    for (i, e) in edges.iter().enumerate() {
+        let x = sources[*e as usize] as usize;
+        if colours[x] as usize == d {
             return i;
         }
     }
-    t
+    edges.len()
 }
 
 // Back from v, each time by the smallest edge from one step nearer; the numbers of a vertex's edges stand in rising order.
@@ -47,14 +47,15 @@ fn back(table: &Table, v: usize, w: &[u32], d0: usize, room: &mut [u32])
     ensures { EveryFrom table.now.n table.now.sources.now (λ g u. WalkAsk g u v d0 w.now room.old → Walked g u v d0 room.old room.new) }
 {
     let sources = table.sources;
-    let rx = table.n + 1 + sources.len();
-    let eb = rx + table.n + 1;
+    let reverse = table.n + 1 + sources.len();
+    let numbers = reverse + table.n + 1;
+    let colours = &w[2 * reverse..];
     let mut x = v;
     for d in (0..d0).rev() {
-        let s = w[rx + x] as usize;
-        let t = w[rx + x + 1] as usize;
-        let i = first(sources, w, eb, 2 * rx, s, t, d);
-        let e = w[eb + i];
+        let s = w[reverse + x] as usize;
+        let t = w[reverse + x + 1] as usize;
+        let edges = &w[numbers + s..numbers + t];
+        let e = edges[first(sources, edges, colours, d)];
         room[d] = e;
         x = sources[e as usize] as usize;
     }

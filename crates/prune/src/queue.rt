@@ -54,6 +54,7 @@ pub fn drain(w: &mut [u32], at: Layout, q: u32, k0: usize) -> usize
 {
     let mut h = 0;
     let mut k = k0;
+    // The queue grows while it is gone along.
     while h < k {
         let u = w[at.base + at.n + h] as usize;
         k = beside(w, at, u, q, k);
@@ -73,6 +74,7 @@ pub fn pass(w: &mut [u32], at: Layout, h: usize, q: u32) -> usize
     let chains = at.chains();
     let mut i = h;
     let mut k = 0;
+    // Along a chain: each place says which comes next.
     while i < at.n {
         let v = w[order + i] as usize;
         let y = w[chains + i] as usize;

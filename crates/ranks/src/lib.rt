@@ -121,6 +121,7 @@ fn peel(w: &mut [u32], at: Layout, targets: &[u32], label: &[u32], k0: usize) ->
 {
     let mut k = k0;
     let mut h = 0;
+    // the queue grows meanwhile
     while h < k {
         let u = w[at.base + QUEUE * at.n + h] as usize;
         k = scan(w, at, targets, label, u, k);

@@ -32,7 +32,7 @@ fn settle(w: &mut [u32], at: Layout, v: usize, r: u32, count: Count) -> Count
     }
 }
 
-// The successors of u are looked at again.
+// The successors of u are looked at again. A step as a closure, for this and seeds::mark_next, would need a relation in the contract: no plainer.
 fn settle_next(w: &mut [u32], at: Layout, u: usize, r: u32, before: Count) -> Count
     requires { SomeOf at.n at.m (λ g. PeelAsk g at.base r u before.seeds before.gone w.old (Next g u)) }
     ensures { EveryOf at.n at.m (λ g. PeelAsk g at.base r u before.seeds before.gone w.old (Next g u) → Settled g at.base r w.old before.seeds before.gone w.new result.seeds result.gone (Next g u)) }
@@ -55,6 +55,7 @@ fn drain(w: &mut [u32], at: Layout, r: u32, before: Count) -> Count
 {
     let mut h = 0;
     let mut count = before;
+    // The queue grows while it is gone along.
     while h < count.gone {
         let u = w[at.base + at.n + h] as usize;
         count = settle_next(w, at, u, r, count);

@@ -12,6 +12,7 @@ pub struct Places {
 }
 
 // y becomes a seed, if it is in what remains and never was one. The new number of seeds.
+// The list stands in w, and no slice of it can be lent beside w: its length e goes along as a number.
 pub fn mark(w: &mut [u32], at: Layout, y: usize, r: u32, e: usize) -> usize
     requires { MarkAsk at.n at.base y r e w.old }
     ensures { Mark at.n at.base y r e w.old w.new result }

@@ -58,6 +58,7 @@ pub fn cuts(w: &mut [u32], at: Layout, r: u32, top: usize) -> usize
 {
     let mut places = Places { from: 0, to: 1 };
     let mut s = top;
+    // Each slice lists the seeds of the next.
     while places.from < places.to {
         let count = peel::peel(w, at, r, places);
         let listed = Places {

@@ -1,39 +1,17 @@
 // Reads each text that its arguments name and writes what the reader makes of it: the table, or the refusal number.
 #![tactic(auto)]
 
-ghost use Rattle.std.specs.Prelude.{◌≤◌, length, IfOk};
-
 use std::fs::File;
-use std::io::Read;
 use std::rt::Files;
 use std::{env, io};
-use text::Answer;
+use text::Size;
 
-// Fills the front of the buffer from a reader, and the whole if there is enough. The count of bytes read.
-fn read_full<R: Read>(reader: &mut R, buf: &mut [u8]) -> io::Result<usize>
-    ensures { IfOk result (λ n. n ≤ length buf.new) }
-{
-    let mut at = 0;
-    while at < buf.len() {
-        let n = reader.read(&mut buf[at..])?;
-        if n == 0 {
-            return Ok(at);
-        }
-        at += n;
-    }
-    Ok(at)
-}
+// What every place of a table slice is at the start.
+const UNTOUCHED: u32 = 7;
 
 // Are all places from `from` on still what they were at the start?
 fn unchanged(xs: &[u32], from: usize) -> bool {
-    let mut i = from;
-    while i < xs.len() {
-        if xs[i] != 7 {
-            return false;
-        }
-        i += 1;
-    }
-    true
+    (from..xs.len()).all(|i| xs[i] == UNTOUCHED)
 }
 
 fn say(rt: &impl Print, ok: bool) -> io::Result<()> {
@@ -44,40 +22,25 @@ fn say(rt: &impl Print, ok: bool) -> io::Result<()> {
     }
 }
 
-fn edge(rt: &impl Print, sources: &[u32], targets: &[u32], e: usize) -> io::Result<()> {
-    if e < sources.len() {
-        if e < targets.len() {
-            println!(rt; "{} {}", sources[e], targets[e])?;
-        }
+fn table(rt: &impl Print, size: Size, sources: &[u32], targets: &[u32]) -> io::Result<()> {
+    println!(rt; "table {} {}", size.n, size.edges)?;
+    for (source, target) in sources.iter().zip(targets).take(size.edges) {
+        println!(rt; "{source} {target}")?;
     }
-    Ok(())
-}
-
-fn table(
-    rt: &impl Print,
-    n: usize,
-    edges: usize,
-    sources: &[u32],
-    targets: &[u32],
-) -> io::Result<()> {
-    println!(rt; "table {n} {edges}")?;
-    for e in 0..edges {
-        edge(rt, sources, targets, e)?;
-    }
-    say(rt, unchanged(sources, edges))?;
-    say(rt, unchanged(targets, edges))
+    say(rt, unchanged(sources, size.edges))?;
+    say(rt, unchanged(targets, size.edges))
 }
 
 fn judge(rt: &impl Print, text: &[u8]) -> io::Result<()> {
-    let mut sources = [7u32; 8];
-    let mut targets = [7u32; 9];
+    let mut sources = [UNTOUCHED; 8];
+    let mut targets = [UNTOUCHED; 9];
     match text::read(text, &mut sources, &mut targets) {
-        Answer::Refused(k) => {
-            println!(rt; "refused {k}")?;
+        Ok(size) => table(rt, size, &sources, &targets),
+        Err(refusal) => {
+            println!(rt; "refused {refusal}")?;
             say(rt, unchanged(&sources, 0))?;
             say(rt, unchanged(&targets, 0))
         }
-        Answer::Done { n, edges } => table(rt, n, edges, &sources, &targets),
     }
 }
 
@@ -88,7 +51,7 @@ fn one<R: Files + Print>(rt: &R, path: &str) -> io::Result<()> {
         return println!(rt; "no such file");
     };
     let mut text = [0u8; 65536];
-    let n = read_full(&mut file, &mut text)?;
+    let n = input::read_full(&mut file, &mut text)?;
     judge(rt, &text[..n])
 }
 
