@@ -7,12 +7,12 @@ use Rattle.checker.specs.declared.Verdict.TheVariants.{Accepted, Failed}
 use Rattle.surface.specs.Told.{told}
 
 -- the failed check with its place, both 0 if accepted
-abbrev pub shown : Verdict → ℕ × ℕ
-shown Accepted = (0, 0)
-shown (Failed k v) = (k, v)
+abbrev pub shown : Verdict → ℕ × ℕ × ℕ
+shown Accepted = (0, 0, 0)
+shown (Failed k v) = (0, k, v)
 
 -- C gets a verdict that meets the checker's promise
 pub record Checked (c : Call) (check place : ℕ) (out : ℕ × ℕ × ℕ) : Type 0 where
   pub answer : Result Verdict Refusal
   pub promised : Promise c answer
-  pub gives : out ≡ told shown answer (check, place)
+  pub gives : out ≡ told shown (λ k. (k, check, place)) answer

@@ -8,4 +8,4 @@ use Rattle.surface.specs.Told.{told}
 pub record Decomposed (c : Call) (draws : ℕ) (a : After) (out : ℕ × ℕ) : Type 0 where
   pub answer : Result ℕ Refusal
   pub promised : Promise c a answer
-  pub gives : out ≡ told (λ d. d) answer draws
+  pub gives : out ≡ told (λ (d : ℕ). (0, d)) (λ k. (k, draws)) answer

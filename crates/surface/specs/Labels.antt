@@ -8,4 +8,4 @@ use Rattle.surface.specs.Told.{told}
 pub record Written (label out : List ℕ) (bytes : ℕ) (out' : List ℕ) (got : ℕ × ℕ) : Type 0 where
   pub answer : Result ℕ Refusal
   pub promised : Promise label out answer out'
-  pub gives : got ≡ told (λ b. b) answer bytes
+  pub gives : got ≡ told (λ (b : ℕ). (0, b)) (λ k. (k, bytes)) answer

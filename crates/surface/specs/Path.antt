@@ -8,4 +8,4 @@ use Rattle.surface.specs.Told.{told}
 pub record Walked (c : Call) (before : ℕ) (room numbers words : List ℕ) (out : ℕ × ℕ) : Type 0 where
   pub answer : Result ℕ Refusal
   pub promised : Promise c room numbers words answer
-  pub gives : out ≡ told (λ d. d) answer before
+  pub gives : out ≡ told (λ (d : ℕ). (0, d)) (λ k. (k, before)) answer

@@ -9,4 +9,4 @@ use Rattle.surface.specs.Told.{told}
 pub record Read (c : Call) (n edges : ℕ) (sources targets : List ℕ) (out : ℕ × ℕ × ℕ) : Type 0 where
   pub answer : Result Size Refusal
   pub promised : Promise c answer sources targets
-  pub gives : out ≡ told (λ s. (s.n, s.edges)) answer (n, edges)
+  pub gives : out ≡ told (λ (s : Size). (0, s.n, s.edges)) (λ k. (k, n, edges)) answer

@@ -9,4 +9,4 @@ use Rattle.surface.specs.Told.{told}
 pub record Searched (c : Call) (backward : Bool) (vertices edges : ℕ) (reached numbers words : List ℕ) (out : ℕ × ℕ × ℕ) : Type 0 where
   pub answer : Result Found Refusal
   pub promised : Promise c backward reached numbers words answer
-  pub gives : out ≡ told (λ f. (f.vertices, f.edges)) answer (vertices, edges)
+  pub gives : out ≡ told (λ (f : Found). (0, f.vertices, f.edges)) (λ k. (k, vertices, edges)) answer

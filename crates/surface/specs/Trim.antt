@@ -8,4 +8,4 @@ use Rattle.surface.specs.Told.{told}
 pub record Trimmed (c : Call) (vertices : ℕ) (left numbers words : List ℕ) (out : ℕ × ℕ) : Type 0 where
   pub answer : Result ℕ Refusal
   pub promised : Promise c left numbers words answer
-  pub gives : out ≡ told (λ v. v) answer vertices
+  pub gives : out ≡ told (λ (v : ℕ). (0, v)) (λ k. (k, vertices)) answer

@@ -48,10 +48,8 @@ pub fn tinoweala_search(
         kinds,
         mask,
     };
-    match reach::search(
-        &table, starts, permitted, backward, reached, numbers, words,
-    ) {
-        Err(r) => u32::from(r),
+    match reach::search(&table, starts, permitted, backward, reached, numbers, words) {
+        Err(refusal) => u32::from(refusal),
         Ok(found) => {
             *vertices = found.vertices;
             *edges = found.edges;

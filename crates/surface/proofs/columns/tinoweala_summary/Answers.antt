@@ -3,7 +3,7 @@ use Rattle.surface.proofs.columns.tinoweala_summary.Goals as goal
 
 pub returns-in-Err : goal.returns-in-Err
 unfolding told
-returns-in-Err c = record { answer = c.summary.result; promised = c.summary.ensures; gives = rw c.in-Err.is }
+returns-in-Err c = record { answer = c.summary.result; promised = c.summary.ensures; gives = rw (c.in-Err.is, c.from.ensures) }
 
 pub returns-in-Ok : goal.returns-in-Ok
 unfolding told
