@@ -4,7 +4,6 @@ ghost use Rattle.sweep.specs.Methods.{slicing_of};
 ghost use Rattle.parts.specs.Divide.{MethodAsk, MakeAsk, Made, Division};
 
 use crate::share;
-use memory::decomposer::ORDER;
 use memory::layout::Layout;
 use pivot::chooser::Chooser;
 use sweep::{Method, Outcome};
@@ -42,7 +41,7 @@ pub fn divide(
     requires { SomeOf at.n at.m (λ g. MethodAsk g (slicing_of method) at.base h top w.old words.old) }
     ensures { EveryOf at.n at.m (λ g. MethodAsk g (slicing_of method) at.base h top w.old words.old → Division g (slicing_of method) at.base chooser.kind chooser.state h top w.old words.old w.new words.new result.outcome.state result.outcome.draws result.outcome.top result.children) }
 {
-    let v = w[at.base + ORDER * at.n + 2 + h] as usize;
+    let v = w[at.order() + h] as usize;
     let q = w[at.base + v];
     make(w, at, h, q, method);
     let outcome = sweep::sweep(w, words, at, h, q, chooser, top, method);

@@ -1,7 +1,6 @@
 // The places of a part are handed out, each behind the last of its new part; the first of each new part is pending.
 ghost use Rattle.parts.specs.Share.{LinkAsk, Linked, HangAsk, Hung, ShareAsk, Sharing};
 
-use memory::decomposer::{CHAINS, ORDER, PENDING};
 use memory::layout::Layout;
 
 // Place i becomes the last of the part c. The number of pending parts then.
@@ -9,7 +8,7 @@ fn link(w: &mut [u32], at: Layout, i: usize, c: usize, k: usize) -> usize
     requires { LinkAsk at.n at.base i c k w.old }
     ensures { Linked at.n at.base i c k w.old w.new result }
 {
-    let chains = at.base + CHAINS * at.n;
+    let chains = at.chains();
     let t = w[chains + c] as usize;
     w[chains + c] = i as u32;
     w[chains + i] = at.n as u32;
@@ -17,7 +16,7 @@ fn link(w: &mut [u32], at: Layout, i: usize, c: usize, k: usize) -> usize
         w[chains + t] = i as u32;
         return k;
     }
-    w[at.base + PENDING * at.n + 2 + k] = i as u32;
+    w[at.pending() + k] = i as u32;
     k + 1
 }
 
@@ -26,7 +25,7 @@ fn hang(w: &mut [u32], at: Layout, i: usize, k: usize) -> usize
     requires { HangAsk at.n at.base i k w.old }
     ensures { Hung at.n at.base i k w.old w.new result }
 {
-    let v = w[at.base + ORDER * at.n + 2 + i] as usize;
+    let v = w[at.order() + i] as usize;
     let c = w[at.base + v] as usize;
     if c < at.n {
         return k;
@@ -39,10 +38,11 @@ pub fn share(w: &mut [u32], at: Layout, first: usize, end: usize, h: usize) -> u
     requires { ShareAsk at.n at.base first end h w.old }
     ensures { Sharing at.n at.base first end w.old at.n w.new result }
 {
+    let chains = at.chains();
     let mut k = 0;
     let mut i = h;
     while i < at.n {
-        let y = w[at.base + CHAINS * at.n + i] as usize;
+        let y = w[chains + i] as usize;
         k = hang(w, at, i, k);
         i = y;
     }

@@ -1,36 +1,22 @@
 -- The index in the direction of the search, and what it leaves for the search.
 use native.Mathlib.Omega.{arith}
 use Prim.Native.Nat.{ℕ, ◌+◌, ◌*◌}
-use mathlib.Core.Path.{◌≡◌, sym, subst, ◌∙◌}
-use mathlib.Core.Bool.{Bool}
+use mathlib.Core.Path.{◌≡◌, subst, ◌∙◌}
 use mathlib.Core.List.{List}
 use Rattle.graph.specs.Graph.{Graph, table, rev, edges}
 use Rattle.memory.specs.Memory.{Framed}
 use Rattle.graph.proofs.Chains.{valid_rev, table_turned}
-use Rattle.index.specs.Build.{OneAsk, One}
-use Rattle.index.proofs.Asks.{valid_column}
+use Rattle.index.specs.Build.{One}
 use Rattle.index.proofs.Counts.{start_all}
 use Rattle.reach.specs.Steps.{ChooseAsk, TableAsk, NeighboursAsk, RunAsk}
 
 pub turned_ask : {g : Graph} {w : List ℕ} → TableAsk g w → TableAsk (rev g) w
 turned_ask a = record { valid = valid_rev a.valid; small = a.small; few = a.few; room = a.room }
 
-pub one_ask : {g : Graph} {kinds w : List ℕ} → NeighboursAsk g kinds w → OneAsk g kinds w
-one_ask a =
-    let t = a.table in
-    record { kinded = a.kinded; column = valid_column t.valid t.small t.few; even = t.valid.same; room = omega (arith, t.room) }
-
--- which edges count does not matter to what an index asks
-pub any_ask : {n m : ℕ} {s t kinds w : List ℕ} {c d : ℕ → Bool} → OneAsk (record { n = n; m = m; src = s; tgt = t; counted = c }) kinds w → OneAsk (record { n = n; m = m; src = s; tgt = t; counted = d }) kinds w
-any_ask a = record { kinded = a.kinded; column = a.column; even = a.even; room = a.room }
-
 -- backward, the columns change places
 module _ (mask : ℕ) {n : ℕ} {s t kinds w : List ℕ} (a : NeighboursAsk (table n s t kinds mask) kinds w) where
   same : table n t s kinds mask ≡ rev (table n s t kinds mask)
   same = table_turned n s t kinds mask a.table.valid.same
-
-  pub back_ask : OneAsk (table n t s kinds mask) kinds w
-  back_ask = subst (λ (g : Graph). OneAsk g kinds w) (sym same) (one_ask (record { table = turned_ask a.table; kinded = a.kinded }))
 
   pub back_one : {w' : List ℕ} → One (table n t s kinds mask) w w' → One (rev (table n s t kinds mask)) w w'
   back_one {w'} o = subst (λ (g : Graph). One g w w') same o

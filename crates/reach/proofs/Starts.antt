@@ -4,23 +4,15 @@ use native.Mathlib.Omega.{arith}
 use native.Mathlib.Decide.{ℕ_discrete}
 use mathlib.Core.Path.{◌≡◌}
 use mathlib.Core.List.{List}
-use Rattle.graph.specs.Sets.{bit}
 use Rattle.memory.specs.Decomposer.{col}
-use Rattle.paint.specs.Colours.{Opens, Shut}
-use Rattle.paint.specs.Paint.{Ready, Visited}
+use Rattle.paint.specs.Colours.{Shut}
+use Rattle.paint.specs.Paint.{Ready}
 use Rattle.paint.proofs.Painting.{paint_still}
 use Rattle.paint.proofs.Growth.{waiting_le, grew_none, grew_more, stays, was_open, ready_more}
 use Rattle.reach.specs.Steps.{reaching, BeginOneAsk, BegunOne, BeginAsk, BegunBelow}
 
 pub reaching_still : (y : ℕ) → reaching (reaching y) ≡ reaching y
 reaching_still = paint_still 1 2 1 2 (λ e. omega arith) (λ e. omega arith) (λ e. omega arith) (λ e. omega arith)
-
-module _ {n b x : ℕ} {r w : List ℕ} {k : ℕ} where
-  pub one_visited : {w' : List ℕ} {k' : ℕ} → bit r x ≡ 1 → Visited reaching n b x w k w' k' → BegunOne n b x r w k w' k'
-  one_visited {w'} {k'} h s = record {
-    grew = grew_more reaching_still s.grew (grew_none reaching n b w' k' (λ v. (bit r v ≡ 1) × Opens reaching (col b w v))) (λ v t. (rw t.0 h, t.1)) (λ v l t. t);
-    shut = λ _. s.shut;
-  }
 
 module _ {n b : ℕ} {r w₀ : List ℕ} (a : BeginAsk n b r w₀) where
   pub begun_none : BegunBelow 0 n b r w₀ w₀ 0

@@ -5,7 +5,6 @@ ghost use Rattle.sweep.specs.Taken.{TakeAsk, Taken};
 ghost use Rattle.sweep.specs.Sweep.{TurnAsk, Turned, SweepAsk, Swept};
 
 use crate::Method;
-use memory::decomposer::{CHAINS, ORDER};
 use memory::layout::Layout;
 
 // The pivot p is taken in the part q. The first colour that no part has then.
@@ -27,7 +26,7 @@ fn turn(w: &mut [u32], at: Layout, i: usize, q: u32, top: usize, method: Method)
     requires { SomeOf at.n at.m (λ g. TurnAsk g (slicing_of method) at.base i q top w.old) }
     ensures { EveryOf at.n at.m (λ g. TurnAsk g (slicing_of method) at.base i q top w.old → Turned g (slicing_of method) at.base i q top w.old w.new result) }
 {
-    let p = w[at.base + ORDER * at.n + 2 + i] as usize;
+    let p = w[at.order() + i] as usize;
     if w[at.base + p] != q {
         return top;
     }
@@ -39,10 +38,11 @@ pub fn sweep(w: &mut [u32], at: Layout, h: usize, q: u32, top0: usize, method: M
     requires { SomeOf at.n at.m (λ g. SweepAsk g (slicing_of method) at.base h q top0 w.old) }
     ensures { EveryOf at.n at.m (λ g. SweepAsk g (slicing_of method) at.base h q top0 w.old → Swept g (slicing_of method) at.base q 0 0 top0 w.old w.new result) }
 {
+    let chains = at.chains();
     let mut top = top0;
     let mut i = h;
     while i < at.n {
-        let y = w[at.base + CHAINS * at.n + i] as usize;
+        let y = w[chains + i] as usize;
         top = turn(w, at, i, q, top, method);
         i = y;
     }

@@ -3,7 +3,6 @@ ghost use Rattle.graph.specs.Arrows.{Some, Every};
 ghost use Rattle.paint.specs.Colours.{paint_of};
 ghost use Rattle.sweep.specs.Drawn.{EnterAsk, Entered, MarkAsk, Marks, StrikeAsk, Struck, EraseAsk, Erased, FindAsk, FoundIn};
 
-use memory::decomposer::{CHAINS, ORDER};
 use memory::layout::{Direction, Layout};
 use paint::Map;
 
@@ -19,7 +18,7 @@ fn enter(w: &[u32], words: &mut [u64], at: Layout, i: usize, q: u32, k: usize) -
     requires { EnterAsk at.n at.base i w.now words.old k }
     ensures { Entered at.n at.base i q w.now words.old k words.new result }
 {
-    let v = w[at.base + ORDER * at.n + 2 + i] as usize;
+    let v = w[at.order() + i] as usize;
     if w[at.base + v] != q {
         return k;
     }
@@ -32,11 +31,12 @@ pub fn mark(w: &[u32], words: &mut [u64], at: Layout, h: usize, q: u32) -> usize
     requires { MarkAsk at.n at.base h q w.now words.old }
     ensures { Marks at.n at.base q w.now words.new result }
 {
+    let chains = at.chains();
     let mut k = 0;
     let mut i = h;
     while i < at.n {
         k = enter(w, words, at, i, q, k);
-        i = w[at.base + CHAINS * at.n + i] as usize;
+        i = w[chains + i] as usize;
     }
     k
 }

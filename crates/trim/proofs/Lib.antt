@@ -1,4 +1,3 @@
-pub mod Between
 pub mod Whole
 pub mod Unique
 pub mod Left

@@ -1,5 +1,5 @@
 -- The steps between sets and colours: what they ask for, and what they promise.
-use Rattle.std.specs.Prelude.{ℕ, ◌+◌, ◌-◌, ◌*◌, ◌≤◌, ◌<◌, ◌≡◌, cond, ◌⊎◌, List, length, get_or, eqb}
+use Rattle.std.specs.Prelude.{ℕ, ◌+◌, ◌-◌, ◌*◌, ◌≤◌, ◌<◌, ◌≡◌, cond, List, length, get_or}
 use Rattle.graph.specs.Limits.{words_of, most_vertices, most_edges, numbers_needed}
 use Rattle.graph.specs.Graph.{Graph, Kinds, Valid, edges}
 use Rattle.graph.specs.Numbers.{mark}
@@ -16,9 +16,6 @@ pub record ColourAsk (n b : ℕ) (part w : List ℕ) : Type 0 where
 -- the colours of the vertices: n in the part, n + 1 outside
 abbrev pub hue : ℕ → List ℕ → ℕ → ℕ
 hue n part v = n + 1 - bit part v
-
-abbrev pub Nearer : ℕ → ℕ → ℕ → ℕ → ℕ → Type 0
-Nearer x q i y r = ((x ≡ q) × (r ≡ i)) ⊎ ((x ≡ q → ⊥) × (r ≡ y))
 
 pub record StringAsk (n b : ℕ) (w : List ℕ) : Type 0 where
   pub small : n ≤ most_vertices
@@ -39,12 +36,6 @@ pub record Strung (n b q i h : ℕ) (w w' : List ℕ) : Type 0 where
   pub low : (j : ℕ) → j < chains_at n b → get_or w' j 0 ≡ get_or w j 0
   pub high : (j : ℕ) → b + 10 * n + 2 ≤ j → get_or w' j 0 ≡ get_or w j 0
   pub long : length w' ≡ length w
-
--- v, which was not in the set, is in it if it has the colour q; no other bit has changed
-pub record Kept (b v q : ℕ) (w r r' : List ℕ) : Type 0 where
-  pub long : length r' ≡ length r
-  pub here : bit r v ≡ 0 → bit r' v ≡ cond (eqb (col b w v) q) 1 0
-  pub else : (u : ℕ) → (u ≡ v → ⊥) → bit r' u ≡ bit r u
 
 pub record CollectAsk (n b : ℕ) (w r : List ℕ) : Type 0 where
   pub small : n ≤ most_vertices

@@ -1,10 +1,7 @@
 use mathlib.Core.Path.{◌≡◌}
 use native.Mathlib.Omega.{arith}
-use Rattle.paint.proofs.Levels.{level_none, turn, turn_ask, turn_step}
+use Rattle.paint.proofs.Levels.{turn, turn_ask, turn_step}
 use Rattle.paint.proofs.level.Goals as goal
-
-pub loop-i-init : goal.loop-i-init
-loop-i-init c = let (g, a) = c.requires in ((g, (a, level_none a)), λ g a. level_none a)
 
 pub scan-q-requires : goal.scan-q-requires
 scan-q-requires c = let ((g, (a, z)), f) = c.loop-i.invariant in turn_ask a z c.loop-i.auto.i c.loop-i-test.true

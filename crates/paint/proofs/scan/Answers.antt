@@ -1,13 +1,7 @@
 use mathlib.Core.Path.{◌≡◌}
 use native.Mathlib.Omega.{arith}
-use Rattle.paint.proofs.Levels.{scan_none, other_lt, scan_ask, scan_step}
+use Rattle.paint.proofs.Levels.{scan_ask, scan_step}
 use Rattle.paint.proofs.scan.Goals as goal
-
-pub loop-i-init : goal.loop-i-init
-loop-i-init c = let a = c.requires in (a, scan_none a)
-
-pub overflow_cast-x : goal.overflow_cast-x
-overflow_cast-x c = let (a, z) = c.loop-i.invariant in omega (arith, other_lt a z c.loop-i.auto.i c.loop-i-test.true)
 
 pub visit-k-requires : goal.visit-k-requires
 visit-k-requires c = let (a, z) = c.loop-i.invariant in scan_ask a z c.loop-i.auto.i c.loop-i-test.true

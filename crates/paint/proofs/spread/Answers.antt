@@ -1,4 +1,3 @@
-use mathlib.Core.Path.{◌≡◌}
 use native.Mathlib.Omega.{arith}
 use Rattle.paint.proofs.Spreading.{spread_none, spread_few, spread_ask, spread_step, spread_room}
 use Rattle.paint.proofs.spread.Goals as goal
@@ -23,9 +22,3 @@ loop-h-preserved c =
     let y = c.level-s.ensures in
     let r = y g (spread_ask a z l) in
     (r.grew.more, (g, (a, spread_step a z r)), λ g a. spread_step a (f g a) (y g (spread_ask a (f g a) l)))
-
-pub returns : goal.returns
-returns c =
-    let l = c.loop-h in
-    let e : l.h ≡ l.k = omega arith in
-    λ g a. rw e at (l.invariant.2 g a)

@@ -1,11 +1,8 @@
-use mathlib.Core.Path.{sym, ◌∙◌}
+use mathlib.Core.Path.{◌∙◌}
 use native.Mathlib.Omega.{arith}
 use lib.ListN.{length-set}
-use Rattle.paint.proofs.Growth.{k_lt, visit_one, visit_none}
+use Rattle.paint.proofs.Growth.{k_lt, visit_one}
 use Rattle.paint.proofs.visit.Goals as goal
-
-pub returns-then-z-y : goal.returns-then-z-y
-returns-then-z-y c = visit_none (sym c.of-z.ensures ∙ c.if-z-y.true)
 
 pub bounds-w-along-3 : goal.bounds-w-along-3
 bounds-w-along-3 c = simp length-set (omega (arith, k_lt c.requires (λ q. c.if-z-y.false (c.of-z.ensures ∙ q))))

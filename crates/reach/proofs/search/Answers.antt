@@ -1,14 +1,7 @@
 use native.Mathlib.Omega.{arith}
-use mathlib.Core.Path.{refl, sym, ◌∙◌}
-use Rattle.std.proofs.lemmas.Result.{err_from_is_err_and}
-use Rattle.graph.proofs.Reasons.{number_some}
+use mathlib.Core.Path.{sym, ◌∙◌}
 use Rattle.reach.proofs.Outcome.{accepted, neighbours_ask, run_ask, run_found, clear_ask, finished}
 use Rattle.reach.proofs.search.Goals as goal
-
-pub returns-in_err-refusal : goal.returns-in_err-refusal
-returns-in_err-refusal c =
-    let p = err_from_is_err_and c.from_residual.result c.from_residual.ensures.1 in
-    rw (p.1, p.2) (record { refusal = c.in_err-refusal.ensures; gives = record { refused = number_some _; reached = refl; numbers = refl; words = refl } })
 
 pub neighbours-requires : goal.neighbours-requires
 neighbours-requires c = neighbours_ask _ (sym c.in_ok-refusal.ensures)

@@ -1,11 +1,6 @@
-use Prim.Native.Nat.{◌%◌}
 use native.Mathlib.Omega.{arith}
-use Rattle.sets.proofs.Digits.{shifted_pos}
 use Rattle.sets.proofs.Store.{clip_none, clipped}
 use Rattle.sets.proofs.clip.Goals as goal
-
-pub overflow_sub-w : goal.overflow_sub-w
-overflow_sub-w c = omega (arith, shifted_pos (c.args.n % 64) (omega arith))
 
 pub returns-then-i-w : goal.returns-then-i-w
 returns-then-i-w c = clipped _ _ (omega arith) (omega arith)

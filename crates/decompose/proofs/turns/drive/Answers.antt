@@ -25,7 +25,7 @@ pub offset_bounds-parts-i : goal.offset_bounds-parts-i
 offset_bounds-parts-i c = let (g, q) = c.requires in omega (arith, driving_low (c.loop-s.invariant g q) c.in-Some.is)
 
 pub slice_copy_out-step : goal.slice_copy_out-step
-slice_copy_out-step c = let (g, q) = c.requires in driving_read (c.loop-s.invariant g q) c.in-Some.is
+slice_copy_out-step c = let (g, q) = c.requires in omega (arith, driving_read (c.loop-s.invariant g q) c.in-Some.is)
 
 pub step-s-requires : goal.step-s-requires
 step-s-requires c = let (g, q) = c.requires in (g, asked c.loop-s.invariant c.in-Some.is g q)
@@ -34,7 +34,7 @@ pub offset_bounds-parts-i-in-Some : goal.offset_bounds-parts-i-in-Some
 offset_bounds-parts-i-in-Some c = let (g, q) = c.requires in omega (arith, driving_low (c.loop-s.invariant g q) c.in-Some.is)
 
 pub bounds-parts-i : goal.bounds-parts-i
-bounds-parts-i c = let (g, q) = c.requires in driving_read (c.loop-s.invariant g q) c.in-Some.is
+bounds-parts-i c = let (g, q) = c.requires in omega (arith, driving_read (c.loop-s.invariant g q) c.in-Some.is)
 
 pub loop-s-smaller : goal.loop-s-smaller
 loop-s-smaller c = let (g, q) = c.requires in driving_less (c.loop-s.invariant g q) c.in-Some.is (stepped c.loop-s.invariant c.in-Some.is c.step-s.ensures g q)

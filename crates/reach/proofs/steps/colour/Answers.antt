@@ -1,14 +1,8 @@
 use native.Mathlib.Omega.{arith}
-use mathlib.Core.Path.{◌≡◌, ◌∙◌}
+use mathlib.Core.Path.{◌∙◌}
 use Rattle.sets.proofs.Store.{bit_byte}
-use Rattle.paint.proofs.Painting.{coloured_none, coloured_more}
+use Rattle.paint.proofs.Painting.{coloured_more}
 use Rattle.reach.proofs.steps.colour.Goals as goal
-
-pub loop-v-init : goal.loop-v-init
-loop-v-init c = coloured_none
 
 pub loop-v-preserved : goal.loop-v-preserved
 loop-v-preserved c = coloured_more (omega arith) (c.from.ensures ∙ rw c.has.ensures (bit_byte _ _)) c.loop-v.invariant
-
-pub returns : goal.returns
-returns c = let e : c.loop-v.v ≡ c.args.along.n = omega arith in rw e at c.loop-v.invariant

@@ -1,25 +1,23 @@
-use native.Mathlib.Omega.{arith}
-use mathlib.Core.Path.{refl}
+use Rattle.std.proofs.Common.{arith}
 use Rattle.sweep.proofs.Sweeping.{sweep_none, next_is, sweep_turn, sweep_step, sweep_all}
-use borrow.Author.Rules.{rules}
 use Rattle.sweep.proofs.chain.sweep.Goals as goal
 
 pub loop-i-init : goal.loop-i-init
-loop-i-init c = (refl, λ e a. sweep_none a)
+loop-i-init c = λ e a. sweep_none a
 
 pub turn-top-requires : goal.turn-top-requires
-turn-top-requires c = (c.requires.0, sweep_turn c.requires.1 (c.loop-i.invariant.1 c.requires.0 c.requires.1) c.loop-i-test.true)
+turn-top-requires c = (c.requires.0, sweep_turn c.requires.1 (c.loop-i.invariant c.requires.0 c.requires.1) c.loop-i-test.true)
 
 pub loop-i-smaller : goal.loop-i-smaller
 loop-i-smaller c =
-    let z = c.loop-i.invariant.1 c.requires.0 c.requires.1 in
-    omega (arith, (next_is c.requires.1 z c.loop-i-test.true).more)
+    let z = c.loop-i.invariant c.requires.0 c.requires.1 in
+    rw c.chains-chains.ensures (omega (arith, (next_is c.requires.1 z c.loop-i-test.true).more))
 
 pub loop-i-preserved : goal.loop-i-preserved
 loop-i-preserved c =
-    let l = c.loop-i.invariant.1 in
+    let l = c.loop-i.invariant in
     let t = c.loop-i-test.true in
-    (search rules, λ e a. sweep_step a (l e a) t (c.turn-top.ensures e (sweep_turn a (l e a) t)))
+    rw c.chains-chains.ensures (λ e a. sweep_step a (l e a) t (c.turn-top.ensures e (sweep_turn a (l e a) t)))
 
 pub returns : goal.returns
-returns c = λ e a. sweep_all a (c.loop-i.invariant.1 e a) c.loop-i-test.false
+returns c = λ e a. sweep_all a (c.loop-i.invariant e a) c.loop-i-test.false

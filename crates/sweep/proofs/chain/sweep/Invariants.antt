@@ -1,6 +1,4 @@
 use Prim.Native.Nat.{◌-◌}
-use mathlib.Core.Path.{◌≡◌}
-use lib.ListN.{length}
 use Rattle.graph.specs.Arrows.{EveryOf}
 use Rattle.sweep.specs.Methods.{slicing_of}
 use Rattle.sweep.specs.Sweep.{SweepAsk}
@@ -8,7 +6,7 @@ use Rattle.sweep.proofs.Sweeping.{Sweeping}
 use Rattle.sweep.proofs.chain.sweep.Given as goal
 
 abbrev pub invariant-loop-i : goal.invariant-loop-i
-invariant-loop-i l = (length l.w ≡ length l.initial.w) × EveryOf l.at.n l.at.m (λ g. (a : SweepAsk g (slicing_of l.method) l.at.base l.h l.q l.top0 l.initial.w) → Sweeping g (slicing_of l.method) l.at.base l.h l.q l.top0 l.initial.w a l.i l.w l.top)
+invariant-loop-i l = EveryOf l.at.n l.at.m (λ g. (a : SweepAsk g (slicing_of l.method) l.at.base l.h l.q l.top0 l.initial.w) → Sweeping g (slicing_of l.method) l.at.base l.h l.q l.top0 l.initial.w a l.i l.w l.top)
 
 abbrev pub decreases-loop-i : goal.decreases-loop-i
 decreases-loop-i l = l.at.n - l.i

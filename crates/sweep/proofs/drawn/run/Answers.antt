@@ -1,6 +1,5 @@
 use native.Mathlib.Omega.{arith}
-use mathlib.Core.Path.{sym, ◌∙◌}
-use Rattle.sweep.proofs.Drawing.{drawing_none, drawing_so_far, drawing_few, drawing_ask, drawing_step, drawing_less, drawing_all}
+use Rattle.sweep.proofs.Drawing.{drawing_none, drawing_few, drawing_ask, drawing_step, drawing_less, drawing_all}
 use Rattle.sweep.proofs.drawn.run.Goals as goal
 
 pub loop-now-init : goal.loop-now-init
@@ -22,12 +21,6 @@ loop-now-preserved c =
     let l = c.loop-now in
     let t = c.loop-now-test.true in
     λ e a. drawing_step a (l.invariant e a) (c.turn-now.ensures e (drawing_ask a (l.invariant e a) t))
-
-pub shape_of-w : goal.shape_of-w
-shape_of-w c = (drawing_so_far c.requires.1 (c.loop-now.invariant c.requires.0 c.requires.1)).inside.long
-
-pub shape_of-words : goal.shape_of-words
-shape_of-words c = (c.loop-now.invariant c.requires.0 c.requires.1).marks.words ∙ sym c.requires.1.marks.words
 
 pub returns : goal.returns
 returns c = λ e a. drawing_all a (c.loop-now.invariant e a) (λ h. absurd (omega (arith, h, c.loop-now-test.false)))

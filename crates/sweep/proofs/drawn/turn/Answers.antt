@@ -1,9 +1,5 @@
-use Rattle.std.proofs.Common.{arith}
-use Rattle.sweep.proofs.Drawing.{marks_few, marks_within, draw_pick, draw_done}
+use Rattle.sweep.proofs.Drawing.{marks_within, draw_pick, draw_done}
 use Rattle.sweep.proofs.drawn.turn.Goals as goal
-
-pub nonzero_rem-s : goal.nonzero_rem-s
-nonzero_rem-s c = omega (arith, c.requires.1.some, marks_few c.requires.1.marks)
 
 pub select-p-requires : goal.select-p-requires
 select-p-requires c = let a = c.requires.1 in marks_within a.marks a.ready.stage.tables.small a.some c.next-s.result

@@ -11,10 +11,10 @@ enter-k-requires c = enter_ask c.requires (c.loop-i.invariant c.requires) c.loop
 pub loop-i-smaller : goal.loop-i-smaller
 loop-i-smaller c =
     let a = c.requires in
-    omega (arith, (mark_next a (c.loop-i.invariant a) c.loop-i-test.true).more)
+    rw c.chains-chains.ensures (omega (arith, (mark_next a (c.loop-i.invariant a) c.loop-i-test.true).more))
 
 pub loop-i-preserved : goal.loop-i-preserved
-loop-i-preserved c = λ a. mark_step a (c.loop-i.invariant a) c.loop-i-test.true c.enter-k.ensures
+loop-i-preserved c = rw c.chains-chains.ensures (λ a. mark_step a (c.loop-i.invariant a) c.loop-i-test.true c.enter-k.ensures)
 
 pub returns : goal.returns
 returns c = mark_all c.requires (c.loop-i.invariant c.requires) c.loop-i-test.false

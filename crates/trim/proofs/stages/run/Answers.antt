@@ -1,11 +1,8 @@
 use Rattle.graph.specs.Graph.{Graph}
 use Rattle.graph.specs.Table.{graph_of}
 use Rattle.graph.specs.Arrows.{arrows}
-use Rattle.trim.proofs.Whole.{both_ask, trim_ask, collect_ask, ran}
+use Rattle.trim.proofs.Whole.{trim_ask, collect_ask, ran}
 use Rattle.trim.proofs.stages.run.Goals as goal
-
-pub both-requires : goal.both-requires
-both-requires c = both_ask c.requires
 
 pub prune-requires : goal.prune-requires
 prune-requires c =
