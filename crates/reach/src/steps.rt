@@ -106,7 +106,7 @@ pub fn run(
     ensures found { EveryOf n m (λ g. RunAsk g starts.now permitted.now w.old r.old → Found g starts.now permitted.now w.old r.old w.new r.new result) }
 {
     let along = Direction {
-        n: n,
+        n,
         index: 0,
         base: n + 1 + m,
     };
