@@ -11,8 +11,9 @@ use Rattle.graph.specs.Limits.{numbers_needed, words_needed}
 use Rattle.graph.specs.Refusal.{given, ◌or◌, plain_refusal, lacking}
 use Rattle.graph.specs.Search.{labels}
 use Rattle.waiting.specs.Records.{none}
-use Rattle.decompose.specs.declared.finish.Answer.{Answer}
-use Rattle.decompose.specs.declared.finish.Answer.TheVariants.{Done, Refused}
+use Rattle.std.proofs.Common.{Result, Ok, Err}
+use Rattle.graph.specs.declared.refusal.Refusal.{Refusal}
+use Rattle.graph.proofs.Reasons.{number_some}
 use Rattle.decompose.specs.Promise.{refusal_after}
 use Rattle.decompose.specs.Plain.{Plainly}
 use Rattle.decompose.proofs.Done.{decompose_full}
@@ -24,7 +25,7 @@ module _ (n : ℕ) (sources targets label : List ℕ) (a : LabelAsk n sources ta
     kinds_room : length sources ≤ length kinds
     kinds_room = omega (arith, a.edges, ap length zeros ∙ length-replicate {A = ℕ} 4096 0)
 
-    pub kinds_taken : length sources ≡ length (take (length sources) kinds)
+    kinds_taken : length sources ≡ length (take (length sources) kinds)
     kinds_taken = sym (length-take-le (length sources) kinds kinds_room)
 
     kinded : Kinds (length sources) (take (length sources) kinds)
@@ -42,7 +43,7 @@ module _ (n : ℕ) (sources targets label : List ℕ) (a : LabelAsk n sources ta
           let w : words_needed n ≤ length words = omega (arith, a.vertices) in
           rw (a.passed, eq-eqb _ _ a.long, le-ltb _ _ m, le-ltb _ _ w, le-ltb _ _ a.vertices)
 
-      pub plain_labels : (label' numbers' words' : List ℕ) (r : Answer)
+      pub plain_labels : (label' numbers' words' : List ℕ) (r : Result ℕ Refusal)
           → Plainly n sources targets (take (length sources) kinds) full_mask label numbers words label' numbers' words' r → label' ≡ labels (graph n sources targets)
-      plain_labels label' numbers' words' (Done d) p = (decompose_full kinded refl p.promise).gives.label
-      plain_labels label' numbers' words' (Refused k) p = let q = decompose_full kinded refl p.promise in absurd (q.gives.refused (q.refusal ∙ plain_refusal_none))
+      plain_labels label' numbers' words' (Ok d) p = (decompose_full kinded refl p.promise).gives.label
+      plain_labels label' numbers' words' (Err k) p = let q = decompose_full kinded refl p.promise in absurd (number_some k (q.refusal ∙ plain_refusal_none))

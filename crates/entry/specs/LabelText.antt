@@ -1,12 +1,12 @@
 -- The entry for C: the label file of a text, into a buffer.
-use Rattle.std.specs.Prelude.{ℕ, ◌≡◌, cond, List, ◌++◌, map, ltb, ℤ, pos, neg_ℤ, length, drop}
+use Rattle.std.specs.Prelude.{ℕ, ◌≡◌, cond, List, ◌++◌, map, ltb, ℤ, pos, neg_ℤ, length, drop, Result as Answer}
 use Rattle.graph.specs.Graph.{Graph, graph}
 use Rattle.graph.specs.Limits.{room_short}
 use Rattle.graph.specs.Search.{labels}
-use Rattle.text.specs.Market.{Result, refused, done, Table, Limits, market}
+use Rattle.graph.specs.declared.refusal.Refusal.{Refusal}
+use Rattle.text.specs.declared.header.Limits.{Limits}
+use Rattle.text.specs.Market.{Result, refused, done, as_reading, Table, market}
 use Rattle.labels.specs.File.{label_file}
-use Rattle.labels.specs.declared.Answer.{Answer}
-use Rattle.labels.specs.declared.Answer.TheVariants.{Done, Refused}
 
 -- at most 512 vertices and 4,096 edges, and room for them
 abbrev pub entry_limits : Limits
@@ -30,9 +30,10 @@ in_room room (done bytes) = cond (ltb room (length bytes)) (refused room_short) 
 unfoldable pub outcome : List ℕ → List ℕ → Result (List ℕ)
 outcome text out = in_room (length out) (file_of (market entry_limits text))
 
-unfoldable pub answer_to : Result (List ℕ) → Answer
-answer_to (refused k) = Refused k
-answer_to (done bytes) = Done (length bytes)
+-- how many bytes there are
+unfoldable pub answer_to : Result (List ℕ) → Result ℕ
+answer_to (refused k) = refused k
+answer_to (done bytes) = done (length bytes)
 
 -- the bytes written, or minus the refusal number
 unfoldable pub returned : Result (List ℕ) → ℤ
@@ -44,8 +45,8 @@ unfoldable pub after : Result (List ℕ) → List ℕ → List ℕ
 after (refused k) out = out
 after (done bytes) out = bytes ++ drop (length bytes) out
 
-pub record Answered (text out : List ℕ) (answer : Answer) (out' : List ℕ) : Type 0 where
-  pub answers : answer ≡ answer_to (outcome text out)
+pub record Answered (text out : List ℕ) (answer : Answer ℕ Refusal) (out' : List ℕ) : Type 0 where
+  pub answers : as_reading answer ≡ answer_to (outcome text out)
   pub out_after : out' ≡ after (outcome text out) out
 
 pub record Promise (text out : List ℕ) (r : ℤ) (out' : List ℕ) : Type 0 where

@@ -1,5 +1,5 @@
 -- Lent memory: what is said of every place fixes the whole; the frame, and stores into it.
-use Prim.Native.Nat.{ℕ, suc, ◌+◌, ◌≤◌, ◌<◌}
+use Prim.Native.Nat.{ℕ, ◌+◌, ◌≤◌, ◌<◌}
 use native.Mathlib.Omega.{arith}
 use native.Mathlib.Decide.{ℕ_discrete, dec_lt}
 use mathlib.Core.Path.{◌≡◌, refl, sym, ap, ◌∙◌}
@@ -48,9 +48,6 @@ set_framed w a e p x l h =
       low = λ j m. get_or-set_other w p j x 0 (λ q. omega arith);
       high = λ j m. get_or-set_other w p j x 0 (λ q. omega arith);
     }
-
-pub put_none : (a : ℕ) (f : ℕ → ℕ) (w : List ℕ) → Put a 0 f w w
-put_none a f w = record { framed = framed_none a (a + 0) w; each = λ i l. absurd (omega arith) }
 
 pub put_step : {a i : ℕ} {f : ℕ → ℕ} {w₀ w : List ℕ} (x : ℕ) → x ≡ f i → a + i < length w → Put a i f w₀ w → Put a (i + 1) f w₀ (set w (a + i) x)
 put_step {a} {i} {f} {w₀} {w} x e l p =

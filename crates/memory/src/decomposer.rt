@@ -8,17 +8,17 @@ pub const CHAINS: usize = 2;
 
 pub const LASTS: usize = 3;
 
-pub const ENTERING: usize = 6;
+const ENTERING: usize = 6;
 
-pub const LEAVING: usize = 7;
+const LEAVING: usize = 7;
 
-pub const MARKS: usize = 7;
+const MARKS: usize = 7;
 
 pub const PENDING: usize = 8;
 
-pub const SEEDS: usize = 8;
+const SEEDS: usize = 8;
 
-pub const ORDER: usize = 9;
+const ORDER: usize = 9;
 
 // Where each region begins.
 impl Layout {

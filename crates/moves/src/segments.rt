@@ -35,20 +35,20 @@ pub fn scan(w: &[u32], at: Regions, label: &[u32], stand: Stand) -> Stand
 {
     let n = at.n;
     let first = at.base + n;
-    let mut k = stand.fronts;
-    for c in stand.cursor..stand.end {
-        let y = label[w[n + 1 + c] as usize];
+    let mut fronts = stand.fronts;
+    for cursor in stand.cursor..stand.end {
+        let y = label[w[n + 1 + cursor] as usize];
         if y as usize == n {
             return Stand {
-                fronts: k,
-                cursor: c,
+                fronts,
+                cursor,
                 ..stand
             };
         }
-        k = bound(n, &w[first..first + k], y);
+        fronts = bound(n, &w[first..first + fronts], y);
     }
     Stand {
-        fronts: k,
+        fronts,
         cursor: stand.end,
         ..stand
     }

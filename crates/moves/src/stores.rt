@@ -35,8 +35,8 @@ pub fn enter(w: &mut [u32], at: Regions, label: &mut [u32], stand: Stand) -> Sta
         fronts: stand.fronts + 1,
         path: stand.path + 1,
         top: x,
-        cursor: cursor,
-        end: end,
+        cursor,
+        end,
         steps: stand.steps,
     }
 }

@@ -53,9 +53,6 @@ one_else j k ne = elim (dec_lt j k) as (λ _. (1 * 2 ^ k) / 2 ^ j % 2 ≡ 0) [
 pub shifted : (k : ℕ) → k < 64 → (1 * 2 ^ k) % 2 ^ 64 ≡ 1 * 2 ^ k
 shifted k h = shl_exact 1 k 64 (lit< tt) (omega arith)
 
-pub shifted_pos : (k : ℕ) → k < 64 → 1 ≤ (1 * 2 ^ k) % 2 ^ 64
-shifted_pos k h = omega (arith, shifted k h, one-mul (2 ^ k), pow_pos k)
-
 -- the complement has the other digits
 pub not_at : (k x j : ℕ) → x < 2 ^ k → j < k → ((2 ^ k - 1) - x) / 2 ^ j % 2 ≡ 1 - x / 2 ^ j % 2
 not_at zero x j h l = absurd (not-suc-le-zero l)

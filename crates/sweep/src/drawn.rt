@@ -16,7 +16,7 @@ struct Course {
     top: usize,
 }
 
-// `split::split`, where the set loses what each search has painted. Not one function with it: a search passed in would bring a trait with a law on sets into its contract.
+// `split::split`, where the set loses what each search has painted. Not one function with it: a trait for a search with a set or with none is longer, and `chain` has no set to pass.
 fn split(w: &mut [u32], words: &mut [u64], at: Layout, p: usize, q: u32, now: Course) -> Course
     requires { SomeOf at.n at.m (λ g. PickAsk g 0 at.base p q now.top w.old words.old now.left) }
     ensures picked { EveryOf at.n at.m (λ g. PickAsk g 0 at.base p q now.top w.old words.old now.left → Picked g 0 at.base p q now.top w.old w.new words.new result.left result.top) }
@@ -45,7 +45,7 @@ fn split(w: &mut [u32], words: &mut [u64], at: Layout, p: usize, q: u32, now: Co
     }
 }
 
-// `slices::slice::slice`, where the set loses what the search has painted.
+// `slices::slice::slice`, where the set loses what the search has painted; two functions for the same reason.
 fn slice(w: &mut [u32], words: &mut [u64], at: Layout, p: usize, q: u32, now: Course) -> Course
     requires { SomeOf at.n at.m (λ g. PickAsk g 1 at.base p q now.top w.old words.old now.left) }
     ensures picked { EveryOf at.n at.m (λ g. PickAsk g 1 at.base p q now.top w.old words.old now.left → Picked g 1 at.base p q now.top w.old w.new words.new result.left result.top) }

@@ -1,20 +1,16 @@
-use native.Mathlib.Omega.{arith}
-use Prim.Native.Nat.{◌<◌, ◌^◌}
-use Rattle.entry.proofs.Returned.{minus_fits, return_refused, return_room, return_done}
+use Rattle.std.proofs.Common.{◌<◌, ◌^◌, arith}
+use Rattle.entry.proofs.Returned.{return_refused, return_room, return_done}
 use Rattle.entry.proofs.tinoweala_label_text.Goals as goal
 
-pub overflow_sub-result : goal.overflow_sub-result
-overflow_sub-result c = search minus_fits
-
-pub overflow_cast-result-in-Done : goal.overflow_cast-result-in-Done
-overflow_cast-result-in-Done c =
-    let room : c.in-Done.bytes < 2 ^ 63 = omega (arith, return_room _ _ _ _ c.label_text.ensures _ c.in-Done.is) in
+pub overflow_cast-result : goal.overflow_cast-result
+overflow_cast-result c =
+    let room : c.in-Ok.bytes < 2 ^ 63 = omega (arith, return_room _ _ _ _ c.label_text.ensures _ c.in-Ok.is) in
     record { sfits = omega (arith, room) }
 
-pub returns-in-Refused : goal.returns-in-Refused
-returns-in-Refused c = search return_refused
+pub returns-in-Ok : goal.returns-in-Ok
+returns-in-Ok c =
+    let room : c.in-Ok.bytes < 2 ^ 63 = omega (arith, return_room _ _ _ _ c.label_text.ensures _ c.in-Ok.is) in
+    return_done _ _ _ _ c.label_text.ensures _ room c.in-Ok.is
 
-pub returns-in-Done : goal.returns-in-Done
-returns-in-Done c =
-    let room : c.in-Done.bytes < 2 ^ 63 = omega (arith, return_room _ _ _ _ c.label_text.ensures _ c.in-Done.is) in
-    search (return_done, room)
+pub returns-in-Err : goal.returns-in-Err
+returns-in-Err c = return_refused _ _ _ _ c.label_text.ensures _ _ _ c.from.ensures c.from-in-Err.ensures (omega arith) c.in-Err.is
