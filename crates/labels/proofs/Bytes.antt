@@ -4,13 +4,15 @@ use native.Mathlib.Nat.{pow-suc, one-le-pow, mul-div_cancel, add-zero}
 use native.Mathlib.Numerals.{add-one}
 use native.Mathlib.Omega.{arith}
 use mathlib.Core.Path.{◌≡◌, refl, sym, ◌∙◌, ap}
-use mathlib.Core.List.{List, [], ◌∷◌, ◌++◌, append_assoc}
-use lib.ListN.{length, get_or, drop, set, length-set, length-append, drop_of_length-le}
-use lib.Seq.{sets, length-sets, sets-eq, drop-cons, paste, take-length}
+use mathlib.Core.List.{List, [], ◌∷◌, ◌++◌, append_assoc, append-nil}
+use lib.ListN.{length, get_or, take, drop, set, length-set, length-append, length-drop, drop_of_length-le}
+use borrow.Rule.Slice.PartMut.{put_mid}
+use Rattle.std.proofs.lemmas.Slice.{put_mid-paste}
+use lib.Seq.{sets, length-sets, sets-eq, drop-cons, paste, take-length, length-take-le}
 use Rattle.lines.specs.Pieces.{LF}
 use Rattle.labels.specs.File.{width, digits, decimal, line, label_lines, label_file, banner}
 use Rattle.labels.specs.Steps.{Measured, Written, Fits}
-use Rattle.labels.proofs.Decimal.{decimal_length}
+use Rattle.labels.proofs.Decimal.{decimal_length, digits_length}
 
 sets_append : (vs ws l : List ℕ) (i : ℕ) → sets (sets l i vs) (i + length vs) ws ≡ sets l i (vs ++ ws)
 sets_append [] ws l i = rw (add-zero i)
@@ -78,13 +80,13 @@ unfolding decimal
 digiting_none x out at digits power m = record { k = width x; is = rw (← m.exact) m.above; rest = putting_none (decimal x) out at }
 
 module _ (x : ℕ) (out₀ : List ℕ) (at power i : ℕ) (out : List ℕ) where
-  step : (k : ℕ) → power ≡ 10 ^ k → Putting (digits k x) (decimal x) out₀ at i out → 1 < power → (power / 10 ≡ 10 ^ (k - 1)) × Putting (digits (k - 1) x) (decimal x) out₀ at (i + 1) (set out i (x / (power / 10) % 10 + 48)) × ((f : Fits (decimal x) out₀ at) → i < length out)
+  step : (k : ℕ) → power ≡ 10 ^ k → Putting (digits k x) (decimal x) out₀ at i out → 1 < power → (power / 10 ≡ 10 ^ (k - 1)) × Putting (digits (k - 1) x) (decimal x) out₀ at (i + 1) (set out i (x / (power / 10) % 10 + 48))
   unfolding digits
   step zero e p h = absurd (omega arith)
   step (suc j) e p h =
       let q : suc j - 1 ≡ j = omega arith in
       let d : power / 10 ≡ 10 ^ j = ap (λ (u : ℕ). u / 10) (e ∙ pow-suc 10 j) ∙ mul-div_cancel (10 ^ j) (omega arith) in
-      rw (q, d) (refl, putting_one (decimal x) out₀ at i out (x / 10 ^ j % 10 + 48) (digits j x) p, λ f. omega (arith, f.room, p.place, p.long))
+      rw (q, d) (refl, putting_one (decimal x) out₀ at i out (x / 10 ^ j % 10 + 48) (digits j x) p)
 
   end : (k : ℕ) → power ≡ 10 ^ k → Putting (digits k x) (decimal x) out₀ at i out → power ≤ 1 → Written (decimal x) out₀ at i out
   unfolding digits
@@ -95,14 +97,46 @@ module _ (x : ℕ) (out₀ : List ℕ) (at power i : ℕ) (out : List ℕ) where
     pub digiting_step : 1 < power → Digiting x out₀ at (power / 10) (i + 1) (set out i (x / (power / 10) % 10 + 48))
     digiting_step h = let s = step g.k g.is g.rest h in record { k = g.k - 1; is = s.0; rest = s.1 }
 
-    pub digiting_room : 1 < power → Fits (decimal x) out₀ at → i < length out
-    digiting_room h f = (step g.k g.is g.rest h).2 f
-
     pub digiting_power : 1 < power → 1 ≤ power / 10
     digiting_power h = omega (arith, (step g.k g.is g.rest h).0, one-le-pow (g.k - 1) 10 (omega arith))
 
     pub digiting_end : power ≤ 1 → Written (decimal x) out₀ at i out
     digiting_end h = end g.k g.is g.rest h
+
+-- the places of a number's digits
+module _ (x : ℕ) (out : List ℕ) (at d power : ℕ) (f : Fits (decimal x) out at) (m : Measured x d power) where
+  pub digits_end : at + d ≤ length out
+  digits_end = omega (arith, f.room, decimal_length x, m.exact)
+
+  pub digits_even : length (take (at + d - at) (drop at out)) ≡ length (decimal x)
+  digits_even =
+      let h : at + d - at ≤ length (drop at out) = omega (arith, length-drop at out, digits_end) in
+      omega (arith, length-take-le (at + d - at) (drop at out) h, decimal_length x, m.exact)
+
+  pub digits_put : (p : List ℕ) → p ≡ decimal x → Written (decimal x) out at (at + d) (put_mid at (at + d - at) out p)
+  digits_put p e =
+      let n : at + d ≡ at + length (decimal x) = omega (arith, decimal_length x, m.exact) in
+      rw n (copied (decimal x) out at f (put_mid at (at + length (decimal x) - at) out p) (put_mid-paste at (at + length (decimal x) - at) out p (decimal x) (length (decimal x)) e (omega arith) refl))
+
+-- digits into places that are as many
+module _ (x : ℕ) (p₀ : List ℕ) (power i : ℕ) (p : List ℕ) (even : length p₀ ≡ length (decimal x)) (g : Digiting x p₀ 0 power i p) where
+  pub digits_more : i < length p₀ → 1 < power
+  digits_more h = omega (arith, g.is, go g.k (omega (arith, length-digits, g.rest.place, g.rest.long)))
+    where
+      length-digits : length (digits g.k x) ≡ g.k
+      length-digits = digits_length g.k x
+
+      go : (k : ℕ) → 1 ≤ k → 10 ≤ 10 ^ k
+      go zero n = absurd (omega arith)
+      go (suc j) n = omega (arith, one-le-pow j 10 (omega arith), pow-suc 10 j)
+
+  pub digits_all : length p₀ ≤ i → p ≡ decimal x
+  digits_all h =
+      let none : g.k ≡ 0 = omega (arith, digits_length g.k x, g.rest.place, g.rest.long) in
+      let last : power ≡ 1 = g.is ∙ rw none in
+      let w = digiting_end x p₀ 0 power i p g (omega arith) in
+      let l : length p₀ ≤ length (decimal x) = omega arith in
+      written_front w (omega arith) ∙ rw (drop_of_length-le p₀ l) (append-nil (decimal x))
 
 -- a number and LF
 module _ (x : ℕ) (out : List ℕ) (at : ℕ) (f : Fits (line (decimal x)) out at) where

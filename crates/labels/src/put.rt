@@ -1,4 +1,4 @@
-// Bytes and numbers put into a lent buffer, one after the other.
+// Bytes and numbers put into a lent buffer, one after the other. The buffer and the place stay two parameters: a struct that holds a `&mut` is no plainer.
 ghost use Rattle.std.specs.Prelude.{◌+◌, ◌≤◌};
 ghost use Rattle.labels.specs.File.{decimal, line, label_lines};
 ghost use Rattle.labels.specs.Steps.{most_number, Measured, Written, Fits};
@@ -12,6 +12,7 @@ pub struct Width {
     pub power: u64,
 }
 
+// The loop goes along the powers of ten.
 pub fn width_of(x: u64) -> Width
     requires { x ≤ most_number }
     ensures { Measured x result.digits result.power }
@@ -34,21 +35,19 @@ pub fn put_bytes(bytes: &[u8], out: &mut [u8], at: usize) -> usize
     end
 }
 
-// A number in decimal, the highest digit first. The loop goes down the powers of ten, and the place follows it.
+// A number in decimal, the highest digit first.
 pub fn put_number(x: u64, out: &mut [u8], at: usize) -> usize
     requires { (x ≤ most_number) × Fits (decimal x) out.old at }
     ensures { Written (decimal x) out.old at result out.new }
 {
     let width = width_of(x);
     let mut power = width.power;
-    let mut i = at;
-    while 1 < power {
+    let end = at + width.digits;
+    for place in &mut out[at..end] {
         power /= 10;
-        let digit = x / power % 10;
-        out[i] = digit as u8 + b'0';
-        i += 1;
+        *place = (x / power % 10) as u8 + b'0';
     }
-    i
+    end
 }
 
 // A label plus one, on a line of its own.

@@ -17,7 +17,7 @@ pub fn rounds(w: &mut [u32], along: Direction, a: u32, k0: usize) -> usize
     while h < k {
         d += 1;
         let map = Map {
-            a: a,
+            a,
             a2: d,
             c: a,
             c2: d,
@@ -35,7 +35,7 @@ pub fn measure(w: &mut [u32], along: Direction, p: usize, a: u32) -> usize
     ensures { Every along.n (λ g. MeasureAsk g a along.index along.base p w.old → Measured g along.base (Has a along.base w.old) (only p) w.old w.new result) }
 {
     let map = Map {
-        a: a,
+        a,
         a2: 0,
         c: a,
         c2: 0,

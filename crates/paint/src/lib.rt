@@ -85,7 +85,7 @@ pub fn level(w: &mut [u32], along: Direction, map: Map, h: usize, k: usize) -> S
         q = scan(w, along, s, t, map, q);
         edges += t - s;
     }
-    Step { k: q, edges: edges }
+    Step { k: q, edges }
 }
 
 // The search goes on from the k0 vertices of the queue, level by level, until the queue is used up.
@@ -102,7 +102,7 @@ pub fn spread(w: &mut [u32], along: Direction, map: Map, k0: usize) -> Step
         k = s.k;
         edges += s.edges;
     }
-    Step { k: k, edges: edges }
+    Step { k, edges }
 }
 
 // What p reaches through colours that change is painted, and the queue ends holding it.

@@ -18,12 +18,9 @@ use Rattle.prune.specs.Prune.{Pruning, Pruned, Fresh, Sound, Off, Here, Standing
 use Rattle.index.proofs.Counts.{start_mono}
 use Rattle.prune.proofs.Walks.{last_le, other_low, ends_at, clear_first, rests_in, rests_wider}
 use Rattle.prune.proofs.Along.{Along, along_less}
-use Rattle.prune.proofs.Steps.{shrink, fresh_off, pruned_none, pruned_more, out_moved, into_moved, sound_kept}
+use Rattle.prune.proofs.Steps.{shrink, fresh_off, pruned_more, out_moved, into_moved, sound_kept}
 
 -- THE NEIGHBOURS AT THE PLACES OF AN INDEX
-pub around_none : {g : Graph} {eb b i t q k : ℕ} {w : List ℕ} → AroundAsk g eb b i t q k w → Around g eb b i i q k w w k
-around_none a = record { pruned = pruned_none a.state; fresh = λ j h l. absurd (omega arith) }
-
 module _ {g : Graph} {eb b i₀ t q k₀ : ℕ} {w₀ : List ℕ} (a : AroundAsk g eb b i₀ t q k₀ w₀)
     {i : ℕ} {w : List ℕ} {k : ℕ} (z : Around g eb b i₀ i q k₀ w₀ w k) (l : i₀ ≤ i) (h : i < t) where
   same_other : other w eb i ≡ other w₀ eb i

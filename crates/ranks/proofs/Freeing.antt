@@ -25,8 +25,10 @@ use Rattle.index.specs.Build.{One, OneAsk, RenumberAsk}
 use Rattle.index.proofs.Asks.{valid_column}
 use Rattle.index.proofs.Counts.{start_all}
 use Rattle.index.proofs.Moved.{held_kept}
+use Rattle.std.specs.Prelude.{Option, Some, None}
+use Rattle.std.specs.Option.{unwrap_or}
 use Rattle.ranks.specs.Ranks.{lead_of, awaited}
-use Rattle.ranks.specs.Peel.{Ground, LeadAsk, Led, Counted, FreeAsk, Freed, FreesAsk, Frees, Peels, RanksAsk, Ranking, PeelAsk, AfterPeel, Ranked}
+use Rattle.ranks.specs.Peel.{Ground, LeadAsk, Led, LedBy, Counted, FreeAsk, Freed, FreesAsk, Frees, Peels, RanksAsk, Ranking, PeelAsk, AfterPeel, Ranked}
 use Rattle.ranks.proofs.Leads.{lead_same, lead_test}
 use Rattle.ranks.proofs.Settling.{ground_kept, lead_ask, ranking_more}
 
@@ -35,6 +37,11 @@ pub record Tallied (g : Graph) (lab : List ℕ) (b e : ℕ) (w₀ w : List ℕ) 
   pub framed : Framed (counts_at g.n b) (counts_at g.n b + (g.n + 1)) w₀ w
   pub each : (v : ℕ) → v < g.n + 1
       → region (counts_at g.n b) w v ≡ many (λ x. eqb (lead_of g.n lab (region (in_edges g.n b) w₀) (from g x) (to g x) x) v && g.counted x) e
+
+-- the vertex that waits, as a number: n where there is none
+pub led_or : (n : ℕ) (lab : List ℕ) (in_edge : ℕ → ℕ) (u v e : ℕ) {t : ℕ} (r : Option ℕ) → LedBy n lab in_edge u v e r → t ≡ unwrap_or r n → Led n lab in_edge u v e t
+led_or n lab in_edge u v e (Some t) (led, low) q = rw q led
+led_or n lab in_edge u v e None led q = rw q led
 
 module _ {g : Graph} {lab : List ℕ} {b : ℕ} {w : List ℕ} (a : Ground g lab b w) where
   pub tally_ask : {e : ℕ} → e < edges g → LeadAsk g.n lab b (from g e) (to g e) w

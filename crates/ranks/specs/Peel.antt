@@ -1,5 +1,5 @@
 -- What the steps of peeling ask for, and what they promise.
-use Rattle.std.specs.Prelude.{ℕ, ◌+◌, ◌-◌, ◌*◌, ◌≤◌, ◌<◌, ◌≡◌, Bool, true, false, List, ◌⊎◌, length, get_or, set, T, eqb}
+use Rattle.std.specs.Prelude.{ℕ, ◌+◌, ◌-◌, ◌*◌, ◌≤◌, ◌<◌, ◌≡◌, Bool, true, false, List, ◌⊎◌, length, get_or, set, T, eqb, Option, Some, None}
 use Rattle.graph.specs.Numbers.{many}
 use Rattle.memory.specs.Memory.{Framed, region, Holds}
 use Rattle.graph.specs.Graph.{Graph, Kinds, Valid, IsEdge, edges, from, to}
@@ -39,6 +39,11 @@ pub record LeadAsk (n : ℕ) (lab : List ℕ) (b u v : ℕ) (w : List ℕ) : Typ
 pub record Led (n : ℕ) (lab : List ℕ) (in_edge : ℕ → ℕ) (u v e r : ℕ) : Type 0 where
   pub is : r ≡ lead_of n lab in_edge u v e
   pub low : r ≤ n
+
+-- the same as an option: a vertex below n, or none
+abbrev pub LedBy : ℕ → List ℕ → (ℕ → ℕ) → (u v e : ℕ) → Option ℕ → Type 0
+LedBy n lab in_edge u v e (Some t) = Led n lab in_edge u v e t × (t < n)
+LedBy n lab in_edge u v e None = Led n lab in_edge u v e n
 
 -- a table whose targets are t
 abbrev pub targeted : List ℕ → Arrows → Arrows

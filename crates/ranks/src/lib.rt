@@ -4,26 +4,26 @@
 ghost use Rattle.graph.specs.Table.{graph_of};
 ghost use Rattle.memory.specs.Memory.{region};
 ghost use Rattle.memory.specs.Writer.{in_edges};
-ghost use Rattle.ranks.specs.Peel.{CountsAsk, Counted, FreeAsk, Freed, FreesAsk, Frees, RanksAsk, Ranked, RiseAsk, Risen, LeadAsk, Led, SomeInto, EveryInto, SettleAsk, AfterSettle, ScanAsk, AfterScan, PeelAsk, AfterPeel};
+ghost use Rattle.ranks.specs.Peel.{CountsAsk, Counted, FreeAsk, Freed, FreesAsk, Frees, RanksAsk, Ranked, RiseAsk, Risen, LeadAsk, LedBy, SomeInto, EveryInto, SettleAsk, AfterSettle, ScanAsk, AfterScan, PeelAsk, AfterPeel};
 
 use graph::table::Table;
 use index::build;
 use memory::layout::Layout;
 use memory::writer::{COUNTS, IN_EDGES, QUEUE, RANKS};
 
-// The vertex that waits for edge e from u to v if it counts, n if none does: a number, so that counts adds without a branch.
-fn lead(w: &[u32], at: Layout, label: &[u32], u: usize, v: usize, e: usize) -> usize
+// The vertex that waits for edge e from u to v if it counts.
+fn lead(w: &[u32], at: Layout, label: &[u32], u: usize, v: usize, e: usize) -> Option<usize>
     requires { LeadAsk at.n label.now at.base u v w.now }
-    ensures { Led at.n label.now (region (in_edges at.n at.base) w.now) u v e result }
+    ensures { LedBy at.n label.now (region (in_edges at.n at.base) w.now) u v e result }
 {
     if label[u] != label[v] {
-        return label[v] as usize;
+        return Some(label[v] as usize);
     }
     let x = w[at.base + IN_EDGES * at.n + v] as usize;
-    if x == e { v } else { at.n }
+    if x == e { Some(v) } else { None }
 }
 
-// How many counted edges each vertex waits for; place n has those that no vertex waits for.
+// How many counted edges each vertex waits for; place n has those that no vertex waits for, so that no branch is needed.
 fn counts(table: &Table, label: &[u32], w: &mut [u32], base: usize)
     requires { CountsAsk (graph_of table.now) table.now.kinds.now label.now base w.old }
     ensures { Counted (graph_of table.now) label.now base w.old w.new }
@@ -39,7 +39,7 @@ fn counts(table: &Table, label: &[u32], w: &mut [u32], base: usize)
     for e in 0..table.sources.len() {
         let u = table.sources[e] as usize;
         let v = table.targets[e] as usize;
-        let t = lead(w, at, label, u, v, e);
+        let t = lead(w, at, label, u, v, e).unwrap_or(at.n);
         let counts = table.counts(e);
         w[base + COUNTS * at.n + t] += u32::from(counts);
     }
@@ -91,10 +91,9 @@ fn settle(
     ensures { EveryInto at.n targets.now (λ g. AfterSettle g label.now at.base u e k w.old w.new result) }
 {
     let v = targets[e] as usize;
-    let t = lead(w, at, label, u, v, e);
-    if t == at.n {
+    let Some(t) = lead(w, at, label, u, v, e) else {
         return k;
-    }
+    };
     let x = w[at.base + RANKS * at.n + u] + rise(label, u, v);
     memory::raise(w, at.base + RANKS * at.n + t, x);
     w[at.base + COUNTS * at.n + t] -= 1;

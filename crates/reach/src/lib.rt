@@ -59,8 +59,5 @@ pub fn search(
     let edges = steps::run(numbers, n, m, starts, permitted, reached);
     let vertices = sets::size(reached);
     memory::clear(n, m, numbers, words);
-    Ok(Found {
-        vertices: vertices,
-        edges: edges,
-    })
+    Ok(Found { vertices, edges })
 }

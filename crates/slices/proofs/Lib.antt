@@ -6,4 +6,3 @@ pub mod Settling
 pub mod Draining
 pub mod Cutting
 pub mod Slicing
-pub mod Preparing

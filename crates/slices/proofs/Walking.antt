@@ -132,9 +132,6 @@ module _ {g : Graph} {b r v e₀ : ℕ} {w₀ : List ℕ} (a : NextAsk g b r v e
 
 -- along the queue
 module _ {g : Graph} {b r k e₀ : ℕ} {w₀ : List ℕ} (a : AllAsk g b r k e₀ w₀) where
-  pub all_none : Marked g.n b r w₀ e₀ w₀ e₀ (Behind g b w₀ 0)
-  all_none = marked_none g.n b r w₀ e₀ _ (λ y h d. absurd (omega (arith, d.1)))
-
   module _ {i : ℕ} {w : List ℕ} {e : ℕ} (l : i < k) (z : Marked g.n b r w₀ e₀ w e (Behind g b w₀ i)) where
     same_queue : que g.n b w i ≡ que g.n b w₀ i
     same_queue = z.low (b + g.n + i) (omega (arith, a.few))

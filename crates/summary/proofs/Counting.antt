@@ -36,9 +36,6 @@ module _ (f : ℕ → Bool) (v n : ℕ) (so_far : n ≡ many f v) where
   pub many_step : (s : ℕ) → s ≡ one (f v) → n + s ≡ many f (v + 1)
   many_step s e = omega (arith, many_next f v)
 
-  pub many_all : (k : ℕ) → k ≤ v → v ≤ k → n ≡ many f k
-  many_all k h l = let e : v ≡ k = omega arith in rw e at so_far
-
 -- a label outside the block changes nothing
 pub added_none : (low l : ℕ) (counts : List ℕ) → ((j : ℕ) → j < length counts → l ≡ low + j → ⊥) → Added low l counts counts
 added_none low l counts out =

@@ -11,7 +11,7 @@ use Rattle.graph.specs.Limits.{most_vertices}
 use Rattle.graph.specs.Numbers.{many}
 use Rattle.graph.specs.Summary.{sharing, summary}
 use Rattle.graph.proofs.Refusals.{or_none, given_none}
-use Rattle.std.proofs.Common.{Result, Ok, Err, ap}
+use Rattle.std.proofs.Common.{Result, Ok, ap}
 use Rattle.graph.specs.Reasons.{said}
 use Rattle.graph.specs.declared.refusal.Refusal.{Refusal}
 use Rattle.summary.specs.declared.blocks.Totals.{Totals}
@@ -19,9 +19,6 @@ use Rattle.summary.specs.Promise.{summary_refusal, Promise}
 use Rattle.summary.specs.Counts.{Folded}
 
 module _ (n : ℕ) (label : List ℕ) (x : Result (Unit {0}) Refusal) (told : said x ≡ summary_refusal (record { n = n; label = label })) where
-  pub check_refused : (k : Refusal) → x ≡ Err k → Promise (record { n = n; label = label }) (Err k)
-  check_refused k e = record { refusal = ap said (sym e) ∙ told; gives = tt }
-
   module _ (right : x ≡ Ok tt) where
     none : summary_refusal (record { n = n; label = label }) ≡ 0
     none = sym told ∙ ap said right

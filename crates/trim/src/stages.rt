@@ -55,8 +55,8 @@ pub fn run(table: &Table, part: &[u64], w: &mut [u32], left: &mut [u64])
     let n = table.n;
     let m = table.sources.len();
     let at = Layout {
-        n: n,
-        m: m,
+        n,
+        m,
         base: 2 * (n + 1 + m),
     };
     let q = n as u32;

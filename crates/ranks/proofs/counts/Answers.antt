@@ -3,7 +3,7 @@ use lib.ListN.{length-set}
 use Rattle.index.proofs.Place.{byte_digit}
 use Rattle.graph.proofs.Masks.{digit_low, kind_of}
 use Rattle.ranks.proofs.Settling.{ground_kept}
-use Rattle.ranks.proofs.Freeing.{tally_none, tally_ask, tally_fits, tally_step, tally_all}
+use Rattle.ranks.proofs.Freeing.{led_or, tally_none, tally_ask, tally_fits, tally_step, tally_all}
 use native.Mathlib.Omega.{arith}
 use Rattle.ranks.proofs.counts.Goals as goal
 
@@ -12,8 +12,8 @@ loop-e-init c =
     let a = c.requires in
     (ground_kept a.ground c.fill.ensures.framed.long, tally_none c.fill.ensures)
 
-pub lead-t-requires : goal.lead-t-requires
-lead-t-requires c = tally_ask c.loop-e.invariant.0 c.loop-e-test.true
+pub lead-requires : goal.lead-requires
+lead-requires c = tally_ask c.loop-e.invariant.0 c.loop-e-test.true
 
 pub counts-counts-requires : goal.counts-counts-requires
 counts-counts-requires c = kind_of c.requires.kinded c.loop-e-test.true
@@ -21,12 +21,15 @@ counts-counts-requires c = kind_of c.requires.kinded c.loop-e-test.true
 pub overflow_add-w-in-loop-e-2 : goal.overflow_add-w-in-loop-e-2
 overflow_add-w-in-loop-e-2 c =
     let (a, x) = c.loop-e.invariant in
-    tally_fits a x c.lead-t.ensures c.loop-e-test.true (omega (arith, c.from.ensures, byte_digit c.counts-counts.result, digit_low c.counts-counts.result))
+    tally_fits a x (led_or _ _ _ _ _ _ _ c.lead.ensures c.unwrap_or-t.ensures) c.loop-e-test.true
+    (omega (arith, c.from.ensures, byte_digit c.counts-counts.result, digit_low c.counts-counts.result))
 
 pub loop-e-preserved : goal.loop-e-preserved
 loop-e-preserved c =
-    let (a, x) = c.loop-e.invariant in
-    (search (ground_kept, length-set), tally_step a x c.lead-t.ensures c.loop-e-test.true (rw c.counts-counts.ensures at (c.from.ensures ∙ byte_digit c.counts-counts.result)))
+    let (a, x) = c.loop-e.invariant in (
+      search (ground_kept, length-set),
+      tally_step a x (led_or _ _ _ _ _ _ _ c.lead.ensures c.unwrap_or-t.ensures) c.loop-e-test.true (rw c.counts-counts.ensures at (c.from.ensures ∙ byte_digit c.counts-counts.result)),
+    )
 
 pub returns : goal.returns
 returns c = search tally_all
