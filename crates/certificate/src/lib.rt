@@ -26,27 +26,26 @@ fn refusal(table: &Table, columns: &Columns, numbers: &[u32], words: &[u64]) -> 
     Ok(())
 }
 
-// The columns that are written.
-#[derive(Drop)]
-struct Written<'a> {
-    rank: &'a mut [u32],
-    in_edge: &'a mut [u32],
-    in_distance: &'a mut [u32],
-    out_edge: &'a mut [u32],
-    out_distance: &'a mut [u32],
-}
-
-// The five columns become what stands in their regions.
-fn hand(n: usize, m: usize, numbers: &[u32], columns: Written)
-    requires { HandAsk n m numbers.now columns.rank.now columns.in_edge.now columns.in_distance.now columns.out_edge.now columns.out_distance.now }
-    ensures { Handed n (2 * (n + 1 + m)) numbers.now columns.entry.rank.now columns.exit.0.now columns.entry.in_edge.now columns.exit.1.0.now columns.entry.in_distance.now columns.exit.1.1.0.now columns.entry.out_edge.now columns.exit.1.1.1.0.now columns.entry.out_distance.now columns.exit.1.1.1.1.0.now }
+// The five columns become what stands in their regions. They stay side by side: of a struct of `&mut` slices a clause names what each ends with by its place alone, `columns.exit.1.1.0.now`.
+fn hand(
+    n: usize,
+    m: usize,
+    numbers: &[u32],
+    rank: &mut [u32],
+    in_edge: &mut [u32],
+    in_distance: &mut [u32],
+    out_edge: &mut [u32],
+    out_distance: &mut [u32],
+)
+    requires { HandAsk n m numbers.now rank.old in_edge.old in_distance.old out_edge.old out_distance.old }
+    ensures { Handed n (2 * (n + 1 + m)) numbers.now rank.old rank.new in_edge.old in_edge.new in_distance.old in_distance.new out_edge.old out_edge.new out_distance.old out_distance.new }
 {
     let base = 2 * (n + 1 + m);
-    memory::copy(numbers, base + RANKS * n, columns.rank);
-    memory::copy(numbers, base + IN_EDGES * n, columns.in_edge);
-    memory::copy(numbers, base, columns.in_distance);
-    memory::copy(numbers, base + OUT_EDGES * n, columns.out_edge);
-    memory::copy(numbers, base + n, columns.out_distance);
+    memory::copy(numbers, base + RANKS * n, rank);
+    memory::copy(numbers, base + IN_EDGES * n, in_edge);
+    memory::copy(numbers, base, in_distance);
+    memory::copy(numbers, base + OUT_EDGES * n, out_edge);
+    memory::copy(numbers, base + n, out_distance);
 }
 
 // Five columns from the labels: shortest distances from and to the label, the smallest counted edges that fit them, the ranks.
@@ -78,14 +77,16 @@ pub fn write(
         memory::clear(n, m, numbers, words);
         return Err(Refusal::WrongLabels);
     }
-    let written = Written {
+    hand(
+        n,
+        m,
+        numbers,
         rank,
         in_edge,
         in_distance,
         out_edge,
         out_distance,
-    };
-    hand(n, m, numbers, written);
+    );
     memory::clear(n, m, numbers, words);
     Ok(())
 }

@@ -1,7 +1,6 @@
 // P4 and P5: the columns that the writer fills in for T's labels; the checker on them, on two wrong ones, and without mentions; then the ranks without mentions.
-use crate::out;
-use crate::t;
 use crate::t::Collection;
+use crate::{out, t};
 use checker::{Columns, Verdict};
 use graph::refusal::Refusal;
 use graph::table::Table;

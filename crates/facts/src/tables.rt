@@ -21,7 +21,7 @@ pub fn run(rt: &impl Print) -> io::Result<()> {
     table.n = 65537;
     check(rt, "table check at n = 65,537", &table)?;
     table.n = 6;
-    table.kinds = &table.kinds[..6];
+    table.kinds = &[0; 6];
     check(rt, "table check of T with 6 kinds", &table)?;
     table.kinds = &[0, 0, 8, 0, 0, 0, 0];
     check(rt, "table check of T with a kind 8", &table)

@@ -1,7 +1,7 @@
 // What the programs share: an input that is read to its end, and the front of a buffer that is written.
 #![tactic(auto)]
 
-ghost use Rattle.std.specs.Prelude.{◌≡◌, ◌≤◌, length, IfOk};
+ghost use Rattle.std.specs.Prelude.{◌≡◌, ◌≤◌, cond, ltb, length, IfOk};
 
 use std::io;
 use std::io::Read;
@@ -10,6 +10,7 @@ use std::io::Read;
 pub fn fitting(bytes: usize, buf: &[u8]) -> usize
     ensures within { result ≤ length buf.now }
     ensures all { bytes ≤ length buf.now → result ≡ bytes }
+    ensures is { result ≡ cond (ltb (length buf.now) bytes) 0 bytes }
 {
     if buf.len() < bytes {
         return 0;
