@@ -13,7 +13,6 @@ use graph::limits;
 use graph::table::Table;
 use index::build;
 use machine::{Machine, NONE};
-use memory::decomposer::{CHAINS, LASTS, PENDING};
 use memory::layout::Layout;
 use pivot::chooser::{Chooser, Pivots};
 use pivot::order;
@@ -50,9 +49,9 @@ fn start(table: &Table, pivots: Pivots, list: &[u32], w: &mut [u32], words: &mut
     build::both(table, w);
     arrange(w, at, pivots, list);
     memory::fill(w, at.base, at.n, at.n as u32);
-    memory::count(w, at.base + CHAINS * at.n, at.n, 1);
-    memory::fill(w, at.base + LASTS * at.n, 3 * at.n + 2, at.n as u32);
-    memory::fill(w, at.base + PENDING * at.n + 2, 1, 0);
+    memory::count(w, at.chains(), at.n, 1);
+    memory::fill(w, at.chains() + at.n, 3 * at.n + 2, at.n as u32);
+    memory::fill(w, at.pending(), 1, 0);
     memory::zero_words(words, limits::words_needed(at.n));
 }
 

@@ -1,219 +1,119 @@
 // P4 and P5: the columns that the writer fills in for T's labels; the checker on them, on two wrong ones, and without mentions; then the ranks without mentions.
-use crate::{out, t};
-use checker::Verdict;
-use graph::limits;
+use crate::out;
+use crate::t;
+use crate::t::Collection;
+use checker::{Columns, Verdict};
+use graph::refusal::Refusal;
+use graph::table::Table;
 use std::io;
 
-fn check(
-    rt: &impl Print,
-    name: &str,
-    kinds: &[u8],
-    mask: u8,
-    label: &[u32],
-    rank: &[u32],
-    in_edge: &[u32],
-    in_distance: &[u32],
-    out_edge: &[u32],
-    out_distance: &[u32],
-) -> io::Result<()> {
-    match checker::check(
-        6,
-        &t::sources(),
-        &t::targets(),
-        kinds,
-        mask,
-        label,
-        rank,
-        in_edge,
-        in_distance,
-        out_edge,
-        out_distance,
-    ) {
-        Verdict::Accepted => out::said(rt, name, "accepted"),
-        Verdict::Failed { check, place } => out::pair(rt, name, check as u64, place as u64),
-        Verdict::Refused(k) => out::refused(rt, name, k),
+// The five columns that the writer fills in.
+#[derive(Clone, Copy)]
+struct Written {
+    rank: [u32; 6],
+    in_edge: [u32; 6],
+    in_distance: [u32; 6],
+    out_edge: [u32; 6],
+    out_distance: [u32; 6],
+}
+
+impl Written {
+    // The writer on these labels.
+    fn new(table: &Table, label: &[u32]) -> Result<Written, Refusal> {
+        let mut columns = Written {
+            rank: [9; 6],
+            in_edge: [9; 6],
+            in_distance: [9; 6],
+            out_edge: [9; 6],
+            out_distance: [9; 6],
+        };
+        let mut numbers = [9u32; 102];
+        let mut words = [9u64; 6];
+        certificate::write(
+            table,
+            label,
+            &mut columns.rank,
+            &mut columns.in_edge,
+            &mut columns.in_distance,
+            &mut columns.out_edge,
+            &mut columns.out_distance,
+            &mut numbers,
+            &mut words,
+        )?;
+        Ok(columns)
+    }
+
+    // The six columns, with these labels.
+    fn with<'a>(&'a self, label: &'a [u32]) -> Columns<'a> {
+        Columns {
+            label,
+            rank: &self.rank,
+            in_edge: &self.in_edge,
+            in_distance: &self.in_distance,
+            out_edge: &self.out_edge,
+            out_distance: &self.out_distance,
+        }
     }
 }
 
-// The columns of T, and with another label column.
-fn labelled(
-    rt: &impl Print,
-    rank: &[u32],
-    in_edge: &[u32],
-    in_distance: &[u32],
-    out_edge: &[u32],
-    out_distance: &[u32],
-) -> io::Result<()> {
-    let kinds = t::kinds();
-    check(
-        rt,
-        "columns of T",
-        &kinds,
-        limits::FULL_MASK,
-        &t::labels(),
-        rank,
-        in_edge,
-        in_distance,
-        out_edge,
-        out_distance,
-    )?;
-    let label = [0, 0, 0, 3, 3, 3];
-    check(
-        rt,
-        "columns of T with vertex 5 labelled 3, check and vertex",
-        &kinds,
-        limits::FULL_MASK,
-        &label,
-        rank,
-        in_edge,
-        in_distance,
-        out_edge,
-        out_distance,
-    )
-}
-
-fn masked(
-    rt: &impl Print,
-    rank: &[u32],
-    in_edge: &[u32],
-    in_distance: &[u32],
-    out_edge: &[u32],
-    out_distance: &[u32],
-) -> io::Result<()> {
-    check(
-        rt,
-        "columns of T without mentions, check and vertex",
-        &t::mentions(),
-        t::HARD,
-        &t::labels(),
-        rank,
-        in_edge,
-        in_distance,
-        out_edge,
-        out_distance,
-    )
-}
-
-// With another rank column.
-fn ranked(
-    rt: &impl Print,
-    in_edge: &[u32],
-    in_distance: &[u32],
-    out_edge: &[u32],
-    out_distance: &[u32],
-) -> io::Result<()> {
-    let rank = [0, 0, 0, 0, 0, 0];
-    check(
-        rt,
-        "columns of T with ranks of 3 and 4 zero, check and edge",
-        &t::kinds(),
-        limits::FULL_MASK,
-        &t::labels(),
-        &rank,
-        in_edge,
-        in_distance,
-        out_edge,
-        out_distance,
-    )
-}
-
-// The writer on these labels. The number returned.
-fn write(
-    kinds: &[u8],
-    mask: u8,
-    label: &[u32],
-    rank: &mut [u32],
-    in_edge: &mut [u32],
-    in_distance: &mut [u32],
-    out_edge: &mut [u32],
-    out_distance: &mut [u32],
-) -> u32 {
-    let mut numbers = [9u32; 102];
-    let mut words = [9u64; 6];
-    certificate::write(
-        6,
-        &t::sources(),
-        &t::targets(),
-        kinds,
-        mask,
-        label,
-        rank,
-        in_edge,
-        in_distance,
-        out_edge,
-        out_distance,
-        &mut numbers,
-        &mut words,
-    )
+fn check(rt: &impl Print, name: &str, table: &Table, columns: &Columns) -> io::Result<()> {
+    match checker::check(table, columns) {
+        Ok(Verdict::Accepted) => out::said(rt, name, "accepted"),
+        Ok(Verdict::Failed { check, place }) => out::pair(rt, name, u64::from(check), place as u64),
+        Err(r) => out::refused(rt, name, r),
+    }
 }
 
 pub fn run(rt: &impl Print) -> io::Result<()> {
-    let mut rank = [9u32; 6];
-    let mut in_edge = [9u32; 6];
-    let mut in_distance = [9u32; 6];
-    let mut out_edge = [9u32; 6];
-    let mut out_distance = [9u32; 6];
-    let k = write(
-        &t::kinds(),
-        limits::FULL_MASK,
-        &t::labels(),
-        &mut rank,
-        &mut in_edge,
-        &mut in_distance,
-        &mut out_edge,
-        &mut out_distance,
-    );
-    if k != 0 {
-        return out::refused(rt, "P4 and P5 columns of T", k);
+    let t = Collection::whole();
+    match Written::new(&t.table(), &t::labels()) {
+        Err(r) => out::refused(rt, "P4 and P5 columns of T", r),
+        Ok(columns) => {
+            out::row(rt, "P4 ranks of T", &columns.rank)?;
+            out::row(rt, "P5 in-distances of T", &columns.in_distance)?;
+            out::row(rt, "P5 out-distances of T", &columns.out_distance)
+        }
     }
-    out::row(rt, "P4 ranks of T", &rank)?;
-    out::row(rt, "P5 in-distances of T", &in_distance)?;
-    out::row(rt, "P5 out-distances of T", &out_distance)
 }
 
-// The checker on what the writer wrote, without mentions, and on two wrong columns beside it.
+// The checker on what the writer wrote, with another label column, without mentions, and with another rank column.
+fn judge_all(rt: &impl Print, columns: &Written) -> io::Result<()> {
+    let t = Collection::whole();
+    let table = t.table();
+    let label = t::labels();
+    check(rt, "columns of T", &table, &columns.with(&label))?;
+    check(
+        rt,
+        "columns of T with vertex 5 labelled 3, check and vertex",
+        &table,
+        &columns.with(&[0, 0, 0, 3, 3, 3]),
+    )?;
+    check(
+        rt,
+        "columns of T without mentions, check and vertex",
+        &Collection::without_mentions().table(),
+        &columns.with(&label),
+    )?;
+    let mut ranked = *columns;
+    ranked.rank = [0; 6];
+    check(
+        rt,
+        "columns of T with ranks of 3 and 4 zero, check and edge",
+        &table,
+        &ranked.with(&label),
+    )
+}
+
 pub fn judge(rt: &impl Print) -> io::Result<()> {
-    let mut rank = [9u32; 6];
-    let mut in_edge = [9u32; 6];
-    let mut in_distance = [9u32; 6];
-    let mut out_edge = [9u32; 6];
-    let mut out_distance = [9u32; 6];
-    let k = write(
-        &t::kinds(),
-        limits::FULL_MASK,
-        &t::labels(),
-        &mut rank,
-        &mut in_edge,
-        &mut in_distance,
-        &mut out_edge,
-        &mut out_distance,
-    );
-    if k != 0 {
-        return out::refused(rt, "columns of T", k);
+    match Written::new(&Collection::whole().table(), &t::labels()) {
+        Err(r) => out::refused(rt, "columns of T", r),
+        Ok(columns) => judge_all(rt, &columns),
     }
-    labelled(rt, &rank, &in_edge, &in_distance, &out_edge, &out_distance)?;
-    masked(rt, &rank, &in_edge, &in_distance, &out_edge, &out_distance)?;
-    ranked(rt, &in_edge, &in_distance, &out_edge, &out_distance)
 }
 
 pub fn without_mentions(rt: &impl Print) -> io::Result<()> {
-    let mut rank = [9u32; 6];
-    let mut in_edge = [9u32; 6];
-    let mut in_distance = [9u32; 6];
-    let mut out_edge = [9u32; 6];
-    let mut out_distance = [9u32; 6];
-    let k = write(
-        &t::mentions(),
-        t::HARD,
-        &[0, 1, 2, 3, 3, 5],
-        &mut rank,
-        &mut in_edge,
-        &mut in_distance,
-        &mut out_edge,
-        &mut out_distance,
-    );
-    if k != 0 {
-        return out::refused(rt, "columns of T without mentions", k);
+    match Written::new(&Collection::without_mentions().table(), &[0, 1, 2, 3, 3, 5]) {
+        Err(r) => out::refused(rt, "columns of T without mentions", r),
+        Ok(columns) => out::row(rt, "ranks of T without mentions", &columns.rank),
     }
-    out::row(rt, "ranks of T without mentions", &rank)
 }

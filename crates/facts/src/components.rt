@@ -1,73 +1,44 @@
 // P1 to P3: the labels that the decomposer gives; then with and without mentions.
-use crate::{out, t};
-use decompose::finish::Answer;
+use crate::out;
+use crate::t::Collection;
 use graph::limits;
+use graph::table::Table;
 use std::io;
 
 fn decompose_table(
     rt: &impl Print,
     name: &str,
-    n: usize,
-    sources: &[u32],
-    targets: &[u32],
-    kinds: &[u8],
-    mask: u8,
+    table: &Table,
     label: &mut [u32],
 ) -> io::Result<()> {
     let mut numbers = [9u32; 102];
     let mut words = [9u64; 6];
-    match decompose::plain::plain(
+    match decompose::plain::plain(table, label, &mut numbers, &mut words) {
+        Ok(_) => out::row(rt, name, label),
+        Err(r) => out::refused(rt, name, r),
+    }
+}
+
+// n vertices and no edge.
+fn bare(n: usize) -> Table<'static> {
+    Table {
         n,
-        sources,
-        targets,
-        kinds,
-        mask,
-        label,
-        &mut numbers,
-        &mut words,
-    ) {
-        Answer::Done { draws: _ } => out::row(rt, name, label),
-        Answer::Refused(k) => out::refused(rt, name, k),
+        sources: &[],
+        targets: &[],
+        kinds: &[],
+        mask: limits::FULL_MASK,
     }
 }
 
 pub fn run(rt: &impl Print) -> io::Result<()> {
-    let sources = t::sources();
-    let targets = t::targets();
-    let kinds = t::kinds();
-    let mut of_t = [9u32; 6];
     decompose_table(
         rt,
         "P1 labels of T",
-        6,
-        &sources,
-        &targets,
-        &kinds,
-        limits::FULL_MASK,
-        &mut of_t,
+        &Collection::whole().table(),
+        &mut [9; 6],
     )?;
-    let mut of_none = [9u32; 0];
-    decompose_table(
-        rt,
-        "P2 labels of n = 0",
-        0,
-        &sources[..0],
-        &targets[..0],
-        &kinds[..0],
-        limits::FULL_MASK,
-        &mut of_none,
-    )?;
-    let mut of_one = [9u32; 1];
-    decompose_table(
-        rt,
-        "P3 labels of n = 1, no edge",
-        1,
-        &sources[..0],
-        &targets[..0],
-        &kinds[..0],
-        limits::FULL_MASK,
-        &mut of_one,
-    )
+    decompose_table(rt, "P2 labels of n = 0", &bare(0), &mut [])?;
+    decompose_table(rt, "P3 labels of n = 1, no edge", &bare(1), &mut [9; 1])
 }
 
 pub fn mentions(rt: &impl Print) -> io::Result<()> {
@@ -75,21 +46,13 @@ pub fn mentions(rt: &impl Print) -> io::Result<()> {
     decompose_table(
         rt,
         "labels of T with mentions",
-        6,
-        &t::sources(),
-        &t::targets(),
-        &t::mentions(),
-        limits::FULL_MASK,
+        &Collection::with_mentions().table(),
         &mut label,
     )?;
     decompose_table(
         rt,
         "labels of T without mentions",
-        6,
-        &t::sources(),
-        &t::targets(),
-        &t::mentions(),
-        t::HARD,
+        &Collection::without_mentions().table(),
         &mut label,
     )
 }

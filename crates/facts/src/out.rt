@@ -1,4 +1,5 @@
 // Lines on standard output: a name, and the numbers it has.
+use graph::refusal::Refusal;
 use std::io;
 
 fn begin(rt: &impl Print, name: &str) -> io::Result<()> {
@@ -27,10 +28,8 @@ pub fn row(rt: &impl Print, name: &str, values: &[u32]) -> io::Result<()> {
     end(rt)
 }
 
-pub fn refused(rt: &impl Print, name: &str, number: u32) -> io::Result<()> {
-    print!(rt; "{name}: refused")?;
-    item(rt, u64::from(number))?;
-    end(rt)
+pub fn refused(rt: &impl Print, name: &str, r: Refusal) -> io::Result<()> {
+    println!(rt; "{name}: refused {r}")
 }
 
 pub fn pair(rt: &impl Print, name: &str, a: u64, b: u64) -> io::Result<()> {

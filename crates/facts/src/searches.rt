@@ -1,14 +1,13 @@
 // P6 to P8: searches of T, each with the word that it writes and its edge count; then without mentions.
-use crate::{out, t};
-use graph::limits;
-use reach::Answer;
+use crate::out;
+use crate::t::Collection;
+use graph::table::Table;
 use std::io;
 
 fn search(
     rt: &impl Print,
     name: &str,
-    kinds: &[u8],
-    mask: u8,
+    table: &Table,
     start: u64,
     permitted: u64,
     backward: bool,
@@ -17,11 +16,7 @@ fn search(
     let mut numbers = [0u32; 102];
     let mut words = [0u64; 6];
     match reach::search(
-        6,
-        &t::sources(),
-        &t::targets(),
-        kinds,
-        mask,
+        table,
         &[start],
         &[permitted],
         backward,
@@ -29,18 +24,18 @@ fn search(
         &mut numbers,
         &mut words,
     ) {
-        Answer::Done { vertices: _, edges } => out::pair(rt, name, reached[0], edges as u64),
-        Answer::Refused(k) => out::refused(rt, name, k),
+        Ok(found) => out::pair(rt, name, reached[0], found.edges as u64),
+        Err(r) => out::refused(rt, name, r),
     }
 }
 
 pub fn run(rt: &impl Print) -> io::Result<()> {
-    let kinds = t::kinds();
+    let t = Collection::whole();
+    let table = t.table();
     search(
         rt,
         "P6 forward from {3}, word and count",
-        &kinds,
-        limits::FULL_MASK,
+        &table,
         8,
         63,
         false,
@@ -48,8 +43,7 @@ pub fn run(rt: &impl Print) -> io::Result<()> {
     search(
         rt,
         "P7 backward from {3}, word and count",
-        &kinds,
-        limits::FULL_MASK,
+        &table,
         8,
         63,
         true,
@@ -57,8 +51,7 @@ pub fn run(rt: &impl Print) -> io::Result<()> {
     search(
         rt,
         "P8 forward from {0} within {0, 1, 2}, word and count",
-        &kinds,
-        limits::FULL_MASK,
+        &table,
         1,
         7,
         false,
@@ -66,12 +59,12 @@ pub fn run(rt: &impl Print) -> io::Result<()> {
 }
 
 pub fn without_mentions(rt: &impl Print) -> io::Result<()> {
-    let kinds = t::mentions();
+    let t = Collection::without_mentions();
+    let table = t.table();
     search(
         rt,
         "forward from {0} without mentions, word and count",
-        &kinds,
-        t::HARD,
+        &table,
         1,
         63,
         false,
@@ -79,8 +72,7 @@ pub fn without_mentions(rt: &impl Print) -> io::Result<()> {
     search(
         rt,
         "backward from {0} without mentions, word and count",
-        &kinds,
-        t::HARD,
+        &table,
         1,
         63,
         true,

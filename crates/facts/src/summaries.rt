@@ -4,12 +4,8 @@ use std::io;
 
 fn sum_up(rt: &impl Print, name: &str, n: usize, label: &[u32]) -> io::Result<()> {
     match summary::summary(n, label) {
-        summary::Answer::Done {
-            own,
-            rings,
-            largest,
-        } => out::row(rt, name, &[own, rings, largest]),
-        summary::Answer::Refused(k) => out::refused(rt, name, k),
+        Ok(totals) => out::row(rt, name, &[totals.own, totals.rings, totals.largest]),
+        Err(r) => out::refused(rt, name, r),
     }
 }
 

@@ -2,6 +2,9 @@
 ghost use Rattle.std.specs.Prelude.{◌≡◌};
 ghost use Rattle.facts.specs.Facts.{sources_t, targets_t, kinds_t, mentions_t, labels_t};
 
+use graph::limits;
+use graph::table::Table;
+
 // Every kind but 1, that of mentions.
 pub const HARD: u8 = 253;
 
@@ -34,4 +37,47 @@ pub fn labels() -> [u32; 6]
     ensures { result ≡ labels_t }
 {
     [0, 0, 0, 3, 3, 5]
+}
+
+// T with a column of kinds and a mask.
+#[derive(Clone, Copy)]
+pub struct Collection {
+    sources: [u32; 7],
+    targets: [u32; 7],
+    kinds: [u8; 7],
+    mask: u8,
+}
+
+impl Collection {
+    fn new(kinds: [u8; 7], mask: u8) -> Collection {
+        Collection {
+            sources: sources(),
+            targets: targets(),
+            kinds,
+            mask,
+        }
+    }
+
+    // Every reference is of kind 0, and counts.
+    pub fn whole() -> Collection {
+        Collection::new(kinds(), limits::FULL_MASK)
+    }
+
+    pub fn with_mentions() -> Collection {
+        Collection::new(mentions(), limits::FULL_MASK)
+    }
+
+    pub fn without_mentions() -> Collection {
+        Collection::new(mentions(), HARD)
+    }
+
+    pub fn table(&self) -> Table<'_> {
+        Table {
+            n: 6,
+            sources: &self.sources,
+            targets: &self.targets,
+            kinds: &self.kinds,
+            mask: self.mask,
+        }
+    }
 }

@@ -1,22 +1,28 @@
 // The table check on T, at the two sides of the vertex limit, and with kinds that do not fit.
-use crate::{out, t};
+use crate::out;
+use crate::t::Collection;
+use graph::table::Table;
 use std::io;
 
-fn check(rt: &impl Print, name: &str, n: usize, kinds: &[u8]) -> io::Result<()> {
-    let k = graph::table::check(n, &t::sources(), &t::targets(), kinds);
-    out::value(rt, name, k as u64)
+fn check(rt: &impl Print, name: &str, table: &Table) -> io::Result<()> {
+    let number = match table.check() {
+        Ok(()) => 0,
+        Err(r) => u32::from(r),
+    };
+    out::value(rt, name, u64::from(number))
 }
 
 pub fn run(rt: &impl Print) -> io::Result<()> {
-    let kinds = t::kinds();
-    check(rt, "table check of T", 6, &kinds)?;
-    check(rt, "table check at n = 65,536", 65536, &kinds)?;
-    check(rt, "table check at n = 65,537", 65537, &kinds)?;
-    check(rt, "table check of T with 6 kinds", 6, &kinds[..6])?;
-    check(
-        rt,
-        "table check of T with a kind 8",
-        6,
-        &[0, 0, 8, 0, 0, 0, 0],
-    )
+    let t = Collection::whole();
+    let mut table = t.table();
+    check(rt, "table check of T", &table)?;
+    table.n = 65536;
+    check(rt, "table check at n = 65,536", &table)?;
+    table.n = 65537;
+    check(rt, "table check at n = 65,537", &table)?;
+    table.n = 6;
+    table.kinds = &table.kinds[..6];
+    check(rt, "table check of T with 6 kinds", &table)?;
+    table.kinds = &[0, 0, 8, 0, 0, 0, 0];
+    check(rt, "table check of T with a kind 8", &table)
 }

@@ -1,13 +1,12 @@
 // The program's vertex limit, at its two sides.
 use crate::out;
-use labels::Answer;
 use std::io;
 
 fn label_text(rt: &impl Print, name: &str, text: &[u8]) -> io::Result<()> {
     let mut file = [0u8; 4096];
     match entry::label_text(text, &mut file) {
-        Answer::Done { bytes } => out::value(rt, name, bytes as u64),
-        Answer::Refused(k) => out::refused(rt, name, k),
+        Ok(bytes) => out::value(rt, name, bytes as u64),
+        Err(r) => out::refused(rt, name, r),
     }
 }
 

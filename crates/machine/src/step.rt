@@ -7,7 +7,6 @@ ghost use Rattle.machine.specs.Aim.{aimed as aimed_of};
 ghost use Rattle.machine.specs.Machine.{slicing, clearing, handing, ClearAsk, HandAsk, CutAsk, PartAsk, StepAsk, Stepped, older_than};
 
 use crate::{Machine, NONE, Order, wrap};
-use memory::decomposer::PENDING;
 use memory::layout::Layout;
 use parts::divide;
 use parts::divide::Divided;
@@ -69,7 +68,7 @@ impl Machine {
     {
         let handed = Machine {
             part: Part {
-                first: w[at.base + PENDING * at.n + 2 + self.given],
+                first: w[at.pending() + self.given],
                 slicing: self.method as u32,
             },
             count: self.count + 1,

@@ -1,6 +1,8 @@
 -- The member at place j is the one below which j members stand.
-use Rattle.std.proofs.Common.{◌≡◌, ℕ, suc, ◌+◌, ◌*◌, ◌<◌, ◌≤◌, Bool, ◌&&◌, T, eqb, ltb, List, length, sym, ◌∙◌, add-one, arith, lt→ltb}
-use native.Mathlib.Decide.{dec_lt}
+use Rattle.std.proofs.Common.{◌≡◌, ℕ, zero, suc, ◌+◌, ◌*◌, ◌<◌, ◌≤◌, Bool, ◌&&◌, T, eqb, ltb, List, length, Some, refl, sym, ◌∙◌, add-one, arith, lt→ltb}
+use native.Mathlib.Decide.{dec_lt, ℕ_discrete}
+use borrow.Author.Tests.{eq-eqb, ne_eqb}
+use Rattle.std.specs.List.{filter, slice_get, range_with_len}
 use Rattle.graph.specs.Numbers.{many, tally}
 use Rattle.graph.specs.Pivot.{member}
 use Rattle.graph.specs.Sets.{bit, members}
@@ -9,6 +11,7 @@ use Rattle.graph.proofs.Pivot.{member_in}
 use Rattle.graph.proofs.Sums.{tally_on}
 use Rattle.graph.proofs.Tests.{and_make, eq_t, cond_true, least_first}
 use Rattle.sets.proofs.Sizes.{bits_many, size_many}
+use Rattle.sets.proofs.Store.{bit_lt}
 use Rattle.pivot.specs.Place.{Within, From, Found}
 
 -- a member counts one more
@@ -52,3 +55,26 @@ module _ {w : List ℕ} {n j : ℕ} (a : Within w n j) where
   -- so it does not lie behind the words
   pub within_words : (i k : ℕ) → length w ≤ i → tally (bit w) (i * 64) + k ≡ j → ⊥
   within_words i k h e = omega (arith, before_end (i * 64) k e, a.words)
+
+-- of the m bits from v on the one that has k before it
+pub record Nth (w : List ℕ) (v m k : ℕ) : Type 0 where
+  pub place : ℕ
+  pub get : slice_get (filter (λ u. eqb (bit w u) 1) (range_with_len v m)) k ≡ Some place
+  pub low : place < v + m
+  pub is : bit w place ≡ 1
+  pub before : tally (bit w) place ≡ tally (bit w) v + k
+
+-- one bit more in front
+nth_next : (w : List ℕ) (v m : ℕ) → ((k : ℕ) → tally (bit w) (v + 1) + k < tally (bit w) ((v + 1) + m) → Nth w (v + 1) m k)
+    → (k : ℕ) → Dec (bit w v ≡ 1) → tally (bit w) v + k < tally (bit w) ((v + 1) + m) → Nth w v (suc m) k
+nth_next w v m rest k (no o) l =
+    let z = rest k (omega (arith, bits_next w v, bit_lt w v)) in
+    record { place = z.place; get = rw (ne_eqb (bit w v) 1 o) z.get; low = omega (arith, z.low); is = z.is; before = omega (arith, z.before, bits_next w v, bit_lt w v) }
+nth_next w v m rest zero (yes e) l = record { place = v; get = rw (eq-eqb (bit w v) 1 e) refl; low = omega arith; is = e; before = omega arith }
+nth_next w v m rest (suc k) (yes e) l =
+    let z = rest k (omega (arith, bits_next w v)) in
+    record { place = z.place; get = rw (eq-eqb (bit w v) 1 e) z.get; low = omega (arith, z.low); is = z.is; before = omega (arith, z.before, bits_next w v) }
+
+pub nth_bit : (w : List ℕ) (v m k : ℕ) → tally (bit w) v + k < tally (bit w) (v + m) → Nth w v m k
+nth_bit w v zero k h = let e : v + 0 ≡ v = omega arith in absurd (omega (arith, rw e at h))
+nth_bit w v (suc m) k h = nth_next w v m (nth_bit w (v + 1) m) k (ℕ_discrete (bit w v) 1) (let e : v + suc m ≡ (v + 1) + m = omega arith in rw e at h)

@@ -1,4 +1,5 @@
 // What goes stands in a queue, and only neighbours of what went are examined again.
+// The queue stands in w, and no slice of it can be lent beside w: its length k goes along as a number.
 ghost use Rattle.graph.specs.Arrows.{SomeOf, EveryOf};
 ghost use Rattle.prune.specs.Trim.{TrimAsk};
 ghost use Rattle.prune.specs.Prune.{ExamineAsk, Examined, NearAsk, Near, BesideAsk, Beside, DrainAsk, Drained, Passed};

@@ -9,7 +9,7 @@ use Rattle.memory.specs.Memory.{Framed}
 use Rattle.index.specs.Index.{Held}
 use Rattle.paint.specs.Colours.{paint, Opens, Shut}
 use Rattle.memory.specs.Decomposer.{col}
-use Rattle.paint.specs.Paint.{Grew, VisitAsk}
+use Rattle.paint.specs.Paint.{Grew}
 
 -- the colours of a search: 0 is not permitted, 1 permitted, 2 reached
 abbrev pub reaching : ℕ → ℕ
@@ -30,15 +30,6 @@ pub record Chosen (n : ℕ) (starts permitted r r' : List ℕ) : Type 0 where
   pub long : length r' ≡ length r
   pub below : (v : ℕ) → v < n → bit r' v ≡ min (bit starts v) (bit permitted v)
   pub above : (v : ℕ) → n ≤ v → bit r' v ≡ 0
-
-pub record BeginOneAsk (n b x : ℕ) (r w : List ℕ) (k : ℕ) : Type 0 where
-  pub visit : VisitAsk reaching n b x w k
-  pub words : length r ≡ words_of n
-
--- x was painted and queued if it is in the set.
-pub record BegunOne (n b x : ℕ) (r w : List ℕ) (k : ℕ) (w' : List ℕ) (k' : ℕ) : Type 0 where
-  pub grew : Grew reaching n b w k w' k' (λ v. (bit r v ≡ 1) × Opens reaching (col b w v))
-  pub shut : bit r x ≡ 1 → Shut reaching (col b w' x)
 
 pub record BeginAsk (n b : ℕ) (r w : List ℕ) : Type 0 where
   pub small : n ≤ most_vertices

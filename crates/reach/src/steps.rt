@@ -7,7 +7,7 @@ ghost use Rattle.graph.specs.Sets.{bit};
 ghost use Rattle.index.specs.Build.{One};
 ghost use Rattle.paint.specs.Colours.{Coloured};
 ghost use Rattle.sets.specs.Sizes.{Words};
-ghost use Rattle.reach.specs.Steps.{ColourAsk, ChooseAsk, Chosen, BeginOneAsk, BegunOne, BeginAsk, BegunBelow, GatherAsk, Gathered, NeighboursAsk, RunAsk, Found};
+ghost use Rattle.reach.specs.Steps.{ColourAsk, ChooseAsk, Chosen, BeginAsk, BegunBelow, GatherAsk, Gathered, NeighboursAsk, RunAsk, Found};
 
 use graph::table::Table;
 use index::build;
@@ -47,17 +47,6 @@ fn choose(n: usize, starts: &[u64], permitted: &[u64], r: &mut [u64])
     sets::clip(r, n);
 }
 
-// Vertex x is painted and queued if it is in the set. The queue's new length.
-fn begin_one(w: &mut [u32], along: Direction, r: &[u64], x: usize, k: usize) -> usize
-    requires { BeginOneAsk along.n along.base x r.now w.old k }
-    ensures { BegunOne along.n along.base x r.now w.old k w.new result }
-{
-    if !sets::has(r, x) {
-        return k;
-    }
-    paint::visit(w, along, x, REACHING, k)
-}
-
 // The members of the set are painted and queued. The queue's length.
 fn begin(w: &mut [u32], along: Direction, r: &[u64]) -> usize
     requires { BeginAsk along.n along.base r.now w.old }
@@ -65,7 +54,9 @@ fn begin(w: &mut [u32], along: Direction, r: &[u64]) -> usize
 {
     let mut k = 0;
     for x in 0..along.n {
-        k = begin_one(w, along, r, x, k);
+        if sets::has(r, x) {
+            k = paint::visit(w, along, x, REACHING, k);
+        }
     }
     k
 }
@@ -93,6 +84,7 @@ pub fn neighbours(table: &Table, backward: bool, w: &mut [u32])
 }
 
 // The search along the index at the front of w: r becomes the set of what is reached. The number of counted edges looked at.
+// n and m alone, not the table: the index stands for it from here on.
 pub fn run(
     w: &mut [u32],
     n: usize,

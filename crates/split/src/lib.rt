@@ -1,4 +1,5 @@
 // One pivot: what it reaches and what reaches it within its part; what they share is a component and gets its label.
+// The queue stands in w, and no slice of it can be lent beside w: its length k goes along as a number.
 #![tactic(auto)]
 
 ghost use Rattle.graph.specs.Arrows.{SomeOf, EveryOf};

@@ -4,7 +4,7 @@ use mathlib.Core.Path.{◌≡◌, refl, sym, ◌∙◌}
 use mathlib.Core.List.{List}
 use Rattle.linear.specs.Promise as linear
 use Rattle.decompose.specs.Promise as decompose
-use Rattle.decompose.specs.declared.finish.Answer.TheVariants.{Done}
+use Rattle.std.proofs.Common.{Ok}
 use Rattle.waiting.specs.declared.Part.{Part}
 use Rattle.pivot.specs.declared.chooser.Chooser.{Chooser}
 use Rattle.graph.specs.Graph.{Graph}
@@ -25,7 +25,7 @@ pub engines_agree : (n : ℕ) (sources targets kinds : List ℕ) (mask : ℕ) (l
     (method order : ℕ) (chooser : Chooser) (list : List ℕ) (waiting : List Part) (label' numbers' words' : List ℕ)
     {l w ws : List ℕ} {a : decompose.After} {d : ℕ}
     → linear.Promise (record { n = n; sources = sources; targets = targets; kinds = kinds; mask = mask; label = label; numbers = numbers; words = words }) l w ws 0
-    → decompose.Promise (decompose.call n sources targets kinds mask method order chooser list waiting label' numbers' words') a (Done d)
+    → decompose.Promise (decompose.call n sources targets kinds mask method order chooser list waiting label' numbers' words') a (Ok d)
     → l ≡ a.label
 engines_agree n sources targets kinds mask label numbers words method order chooser list waiting label' numbers' words' p q =
     engines_one (searched p) (decomposed q)

@@ -1,16 +1,11 @@
 -- The writer of a label file for C.
-use Rattle.std.specs.Prelude.{ℕ, ◌≡◌, List}
+use Rattle.std.specs.Prelude.{ℕ, ◌≡◌, Result, List}
 use Rattle.labels.specs.Promise.{Promise}
-use Rattle.labels.specs.declared.Answer.{Answer}
-use Rattle.labels.specs.declared.Answer.TheVariants.{Done, Refused}
-
--- an answer as C gets it: the result and the bytes written; a refusal leaves the number of bytes as it was
-unfoldable pub told : Answer → (bytes : ℕ) → ℕ × ℕ
-told (Done b) bytes = (0, b)
-told (Refused k) bytes = (k, bytes)
+use Rattle.graph.specs.declared.refusal.Refusal.{Refusal}
+use Rattle.surface.specs.Told.{told}
 
 -- C gets an answer that meets the writer's promise; out is the buffer before, out' after the call
 pub record Written (label out : List ℕ) (bytes : ℕ) (out' : List ℕ) (got : ℕ × ℕ) : Type 0 where
-  pub answer : Answer
+  pub answer : Result ℕ Refusal
   pub promised : Promise label out answer out'
-  pub gives : got ≡ told answer bytes
+  pub gives : got ≡ told (λ (b : ℕ). (0, b)) (λ k. (k, bytes)) answer

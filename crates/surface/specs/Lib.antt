@@ -1,3 +1,4 @@
+pub mod Told
 pub mod Search
 pub mod Trim
 pub mod Path

@@ -1,16 +1,12 @@
 -- The reader of a text for C.
-use Rattle.std.specs.Prelude.{ℕ, ◌≡◌, List}
+use Rattle.std.specs.Prelude.{ℕ, ◌≡◌, Result, List}
 use Rattle.text.specs.Promise.{Call, Promise}
-use Rattle.text.specs.declared.Answer.{Answer}
-use Rattle.text.specs.declared.Answer.TheVariants.{Done, Refused}
-
--- an answer as C gets it: the result, n and the number of edges; a refusal leaves both as they were
-unfoldable pub told : Answer → (n edges : ℕ) → ℕ × ℕ × ℕ
-told (Done x m) n edges = (0, x, m)
-told (Refused k) n edges = (k, n, edges)
+use Rattle.graph.specs.declared.refusal.Refusal.{Refusal}
+use Rattle.text.specs.declared.Size.{Size}
+use Rattle.surface.specs.Told.{told}
 
 -- C gets an answer that meets the reader's promise
 pub record Read (c : Call) (n edges : ℕ) (sources targets : List ℕ) (out : ℕ × ℕ × ℕ) : Type 0 where
-  pub answer : Answer
+  pub answer : Result Size Refusal
   pub promised : Promise c answer sources targets
-  pub gives : out ≡ told answer n edges
+  pub gives : out ≡ told (λ (s : Size). (0, s.n, s.edges)) (λ k. (k, n, edges)) answer

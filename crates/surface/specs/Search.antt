@@ -1,16 +1,12 @@
 -- The search for C.
-use Rattle.std.specs.Prelude.{ℕ, ◌≡◌, Bool, List}
+use Rattle.std.specs.Prelude.{ℕ, ◌≡◌, Result, Bool, List}
 use Rattle.reach.specs.Search.{Call, Promise}
-use Rattle.reach.specs.declared.Answer.{Answer}
-use Rattle.reach.specs.declared.Answer.TheVariants.{Done, Refused}
-
--- an answer as C gets it: the result, vertices and edges; a refusal leaves vertices and edges as they were
-unfoldable pub told : Answer → (vertices edges : ℕ) → ℕ × ℕ × ℕ
-told (Done v e) vertices edges = (0, v, e)
-told (Refused k) vertices edges = (k, vertices, edges)
+use Rattle.graph.specs.declared.refusal.Refusal.{Refusal}
+use Rattle.reach.specs.declared.Found.{Found}
+use Rattle.surface.specs.Told.{told}
 
 -- C gets an answer that meets the search's promise
 pub record Searched (c : Call) (backward : Bool) (vertices edges : ℕ) (reached numbers words : List ℕ) (out : ℕ × ℕ × ℕ) : Type 0 where
-  pub answer : Answer
+  pub answer : Result Found Refusal
   pub promised : Promise c backward reached numbers words answer
-  pub gives : out ≡ told answer vertices edges
+  pub gives : out ≡ told (λ (f : Found). (0, f.vertices, f.edges)) (λ k. (k, vertices, edges)) answer

@@ -1,16 +1,12 @@
 -- The summary for C.
-use Rattle.std.specs.Prelude.{ℕ, ◌≡◌}
+use Rattle.std.specs.Prelude.{ℕ, ◌≡◌, Result}
 use Rattle.summary.specs.Promise.{Call, Promise}
-use Rattle.summary.specs.declared.Answer.{Answer}
-use Rattle.summary.specs.declared.Answer.TheVariants.{Done, Refused}
-
--- an answer as C gets it: the result and the three numbers; a refusal leaves the three as they were
-unfoldable pub told : Answer → (own rings largest : ℕ) → ℕ × ℕ × ℕ × ℕ
-told (Done o r l) own rings largest = (0, o, r, l)
-told (Refused k) own rings largest = (k, own, rings, largest)
+use Rattle.graph.specs.declared.refusal.Refusal.{Refusal}
+use Rattle.summary.specs.declared.answer.Summary.{Summary}
+use Rattle.surface.specs.Told.{told}
 
 -- C gets an answer that meets the summary's promise
 pub record Summed (c : Call) (own rings largest : ℕ) (out : ℕ × ℕ × ℕ × ℕ) : Type 0 where
-  pub answer : Answer
+  pub answer : Result Summary Refusal
   pub promised : Promise c answer
-  pub gives : out ≡ told answer own rings largest
+  pub gives : out ≡ told (λ (s : Summary). (0, s.own, s.rings, s.largest)) (λ k. (k, own, rings, largest)) answer

@@ -4,6 +4,9 @@ ghost use Rattle.checker.specs.Promise.{call as checking};
 ghost use Rattle.surface.specs.Check.{Checked};
 ghost use Rattle.surface.specs.Summary.{Summed};
 
+use checker::{Columns, Verdict};
+use graph::table::Table;
+
 pub fn tinoweala_write_certificate(
     n: usize,
     sources: &[u32],
@@ -21,12 +24,15 @@ pub fn tinoweala_write_certificate(
 ) -> u32
     ensures { Certified (writing n sources.now targets.now kinds.now mask label.now (lent rank.old in_edge.old in_distance.old out_edge.old out_distance.old numbers.old words.old)) result (lent rank.new in_edge.new in_distance.new out_edge.new out_distance.new numbers.new words.new) }
 {
-    certificate::write(
+    let table = Table {
         n,
         sources,
         targets,
         kinds,
         mask,
+    };
+    match certificate::write(
+        &table,
         label,
         rank,
         in_edge,
@@ -35,7 +41,10 @@ pub fn tinoweala_write_certificate(
         out_distance,
         numbers,
         words,
-    )
+    ) {
+        Err(r) => u32::from(r),
+        Ok(()) => 0,
+    }
 }
 
 pub fn tinoweala_check_certificate(
@@ -55,26 +64,29 @@ pub fn tinoweala_check_certificate(
 ) -> u32
     ensures { Checked (checking n sources.now targets.now kinds.now mask label.now rank.now in_edge.now in_distance.now out_edge.now out_distance.now) check.old place.old (result, check.new, place.new) }
 {
-    match checker::check(
+    let table = Table {
         n,
         sources,
         targets,
         kinds,
         mask,
+    };
+    let columns = Columns {
         label,
         rank,
         in_edge,
         in_distance,
         out_edge,
         out_distance,
-    ) {
-        checker::Verdict::Refused(k) => k,
-        checker::Verdict::Failed { check: c, place: p } => {
+    };
+    match checker::check(&table, &columns) {
+        Err(r) => u32::from(r),
+        Ok(Verdict::Failed { check: c, place: p }) => {
             *check = c;
             *place = p;
             0
         }
-        checker::Verdict::Accepted => {
+        Ok(Verdict::Accepted) => {
             *check = 0;
             *place = 0;
             0
@@ -92,15 +104,11 @@ pub fn tinoweala_summary(
     ensures { Summed (record { n = n; label = label.now }) own.old rings.old largest.old (result, own.new, rings.new, largest.new) }
 {
     match summary::summary(n, label) {
-        summary::Answer::Refused(k) => k,
-        summary::Answer::Done {
-            own: o,
-            rings: r,
-            largest: l,
-        } => {
-            *own = o;
-            *rings = r;
-            *largest = l;
+        Err(r) => u32::from(r),
+        Ok(totals) => {
+            *own = totals.own;
+            *rings = totals.rings;
+            *largest = totals.largest;
             0
         }
     }

@@ -1,25 +1,11 @@
 // The labels of a table: the decomposer and the linear engine.
-ghost use Rattle.std.specs.Prelude.{◌≡◌};
 ghost use Rattle.decompose.specs.Promise.{call, after};
 ghost use Rattle.linear.specs.Promise.{Promise};
-ghost use Rattle.surface.specs.Decompose.{told, Decomposed};
+ghost use Rattle.surface.specs.Decompose.{Decomposed};
 
-use decompose::finish::Answer;
+use graph::table::Table;
 use pivot::chooser::Chooser;
 use waiting::Part;
-
-// Hands an answer out: the result, and the draws where there are some.
-fn hand(answer: Answer, draws: &mut usize) -> u32
-    ensures { (result, draws.new) ≡ told answer draws.old }
-{
-    match answer {
-        Answer::Refused(k) => k,
-        Answer::Done { draws: d } => {
-            *draws = d;
-            0
-        }
-    }
-}
 
 pub fn tinoweala_decompose(
     n: usize,
@@ -39,11 +25,22 @@ pub fn tinoweala_decompose(
 ) -> u32
     ensures { Decomposed (call n sources.now targets.now kinds.now mask method order chooser.old list.now waiting.old label.old numbers.old words.old) draws.old (after chooser.new waiting.new label.new numbers.new words.new) (result, draws.new) }
 {
-    let answer = decompose::decompose(
-        n, sources, targets, kinds, mask, method, order, chooser, list, waiting, label, numbers,
-        words,
-    );
-    hand(answer, draws)
+    let table = Table {
+        n,
+        sources,
+        targets,
+        kinds,
+        mask,
+    };
+    match decompose::decompose(
+        &table, method, order, chooser, list, waiting, label, numbers, words,
+    ) {
+        Err(r) => u32::from(r),
+        Ok(made) => {
+            *draws = made;
+            0
+        }
+    }
 }
 
 pub fn tinoweala_label(
@@ -58,5 +55,15 @@ pub fn tinoweala_label(
 ) -> u32
     ensures { Promise (record { n = n; sources = sources.now; targets = targets.now; kinds = kinds.now; mask = mask; label = label.old; numbers = numbers.old; words = words.old }) label.new numbers.new words.new result }
 {
-    linear::label(n, sources, targets, kinds, mask, label, numbers, words)
+    let table = Table {
+        n,
+        sources,
+        targets,
+        kinds,
+        mask,
+    };
+    match linear::label(&table, label, numbers, words) {
+        Err(r) => u32::from(r),
+        Ok(()) => 0,
+    }
 }

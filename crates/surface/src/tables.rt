@@ -5,10 +5,23 @@ ghost use Rattle.surface.specs.Search.{Searched};
 ghost use Rattle.surface.specs.Trim.{Trimmed};
 ghost use Rattle.surface.specs.Path.{Walked};
 
+use graph::limits;
+use graph::table::Table;
+
 pub fn tinoweala_check_table(n: usize, sources: &[u32], targets: &[u32], kinds: &[u8]) -> u32
     ensures { result ≡ table_refusal n sources.now targets.now kinds.now }
 {
-    graph::table::check(n, sources, targets, kinds)
+    let table = Table {
+        n,
+        sources,
+        targets,
+        kinds,
+        mask: limits::FULL_MASK,
+    };
+    match table.check() {
+        Err(r) => u32::from(r),
+        Ok(()) => 0,
+    }
 }
 
 pub fn tinoweala_search(
@@ -28,16 +41,18 @@ pub fn tinoweala_search(
 ) -> u32
     ensures { Searched (record { n = n; sources = sources.now; targets = targets.now; kinds = kinds.now; mask = mask; starts = starts.now; permitted = permitted.now; reached = reached.old; numbers = numbers.old; words = words.old }) backward vertices.old edges.old reached.new numbers.new words.new (result, vertices.new, edges.new) }
 {
-    match reach::search(
-        n, sources, targets, kinds, mask, starts, permitted, backward, reached, numbers, words,
-    ) {
-        reach::Answer::Refused(k) => k,
-        reach::Answer::Done {
-            vertices: v,
-            edges: e,
-        } => {
-            *vertices = v;
-            *edges = e;
+    let table = Table {
+        n,
+        sources,
+        targets,
+        kinds,
+        mask,
+    };
+    match reach::search(&table, starts, permitted, backward, reached, numbers, words) {
+        Err(refusal) => u32::from(refusal),
+        Ok(found) => {
+            *vertices = found.vertices;
+            *edges = found.edges;
             0
         }
     }
@@ -57,10 +72,17 @@ pub fn tinoweala_trim(
 ) -> u32
     ensures { Trimmed (record { n = n; sources = sources.now; targets = targets.now; kinds = kinds.now; mask = mask; part = part.now; left = left.old; numbers = numbers.old; words = words.old }) vertices.old left.new numbers.new words.new (result, vertices.new) }
 {
-    match trim::trim(n, sources, targets, kinds, mask, part, left, numbers, words) {
-        trim::Answer::Refused(k) => k,
-        trim::Answer::Done { vertices: v } => {
-            *vertices = v;
+    let table = Table {
+        n,
+        sources,
+        targets,
+        kinds,
+        mask,
+    };
+    match trim::trim(&table, part, left, numbers, words) {
+        Err(r) => u32::from(r),
+        Ok(size) => {
+            *vertices = size;
             0
         }
     }
@@ -81,10 +103,17 @@ pub fn tinoweala_path(
 ) -> u32
     ensures { Walked (record { n = n; sources = sources.now; targets = targets.now; kinds = kinds.now; mask = mask; u = u; v = v; room = room.old; numbers = numbers.old; words = words.old }) length.old room.new numbers.new words.new (result, length.new) }
 {
-    match paths::path(n, sources, targets, kinds, mask, u, v, room, numbers, words) {
-        paths::Answer::Refused(k) => k,
-        paths::Answer::Done { length: d } => {
-            *length = d;
+    let table = Table {
+        n,
+        sources,
+        targets,
+        kinds,
+        mask,
+    };
+    match paths::path(&table, u, v, room, numbers, words) {
+        Err(r) => u32::from(r),
+        Ok(edges) => {
+            *length = edges;
             0
         }
     }

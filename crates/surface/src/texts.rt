@@ -13,10 +13,10 @@ pub fn tinoweala_read_text(
     ensures { Read (record { text = text.now; most_vertices = most_vertices; most_edges = most_edges; sources = sources.old; targets = targets.old }) n.old edges.old sources.new targets.new (result, n.new, edges.new) }
 {
     match text::read(text, sources, targets) {
-        text::Answer::Refused(k) => k,
-        text::Answer::Done { n: x, edges: m } => {
-            *n = x;
-            *edges = m;
+        Err(r) => u32::from(r),
+        Ok(size) => {
+            *n = size.n;
+            *edges = size.edges;
             0
         }
     }
@@ -26,9 +26,9 @@ pub fn tinoweala_write_labels(label: &[u32], out: &mut [u8], bytes: &mut usize) 
     ensures { Written label.now out.old bytes.old out.new (result, bytes.new) }
 {
     match labels::write(label, out) {
-        labels::Answer::Refused(k) => k,
-        labels::Answer::Done { bytes: b } => {
-            *bytes = b;
+        Err(r) => u32::from(r),
+        Ok(count) => {
+            *bytes = count;
             0
         }
     }

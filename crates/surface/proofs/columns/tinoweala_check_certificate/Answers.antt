@@ -1,14 +1,14 @@
-use Rattle.surface.specs.Check.{told}
+use Rattle.surface.specs.Told.{told}
 use Rattle.surface.proofs.columns.tinoweala_check_certificate.Goals as goal
 
-pub returns-in-Refused : goal.returns-in-Refused
+pub returns-in-Err : goal.returns-in-Err
 unfolding told
-returns-in-Refused c = record { answer = c.check.result; promised = c.check.ensures; gives = rw c.in-Refused.is }
+returns-in-Err c = record { answer = c.check.result; promised = c.check.ensures; gives = rw (c.in-Err.is, c.from.ensures) }
 
-pub returns-in-Failed : goal.returns-in-Failed
+pub returns-in-Ok-Failed : goal.returns-in-Ok-Failed
 unfolding told
-returns-in-Failed c = record { answer = c.check.result; promised = c.check.ensures; gives = rw c.in-Failed.is }
+returns-in-Ok-Failed c = record { answer = c.check.result; promised = c.check.ensures; gives = rw (c.in-Ok-Failed.is, c.in-Ok-Failed.field-0-is) }
 
-pub returns-in-Accepted : goal.returns-in-Accepted
+pub returns-in-Ok-Accepted : goal.returns-in-Ok-Accepted
 unfolding told
-returns-in-Accepted c = record { answer = c.check.result; promised = c.check.ensures; gives = rw c.in-Accepted.is }
+returns-in-Ok-Accepted c = record { answer = c.check.result; promised = c.check.ensures; gives = rw (c.in-Ok-Accepted.is, c.in-Ok-Accepted.field-0-is) }

@@ -1,10 +1,10 @@
-use Rattle.surface.specs.Trim.{told}
+use Rattle.surface.specs.Told.{told}
 use Rattle.surface.proofs.tables.tinoweala_trim.Goals as goal
 
-pub returns-in-Refused : goal.returns-in-Refused
+pub returns-in-Err : goal.returns-in-Err
 unfolding told
-returns-in-Refused c = record { answer = c.trim.result; promised = c.trim.ensures; gives = rw c.in-Refused.is }
+returns-in-Err c = record { answer = c.trim.result; promised = c.trim.ensures; gives = rw (c.in-Err.is, c.from.ensures) }
 
-pub returns-in-Done : goal.returns-in-Done
+pub returns-in-Ok : goal.returns-in-Ok
 unfolding told
-returns-in-Done c = record { answer = c.trim.result; promised = c.trim.ensures; gives = rw c.in-Done.is }
+returns-in-Ok c = record { answer = c.trim.result; promised = c.trim.ensures; gives = rw c.in-Ok.is }
