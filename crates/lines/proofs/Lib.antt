@@ -1,3 +1,4 @@
 pub mod Split
 pub mod Words
 pub mod Rows
+pub mod Unique
