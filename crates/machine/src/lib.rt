@@ -10,7 +10,7 @@ use pivot::chooser::Chooser;
 use sweep::Method;
 use waiting::Part;
 
-pub mod step;
+mod step;
 
 // The record that stands where no part waits.
 pub const NONE: Part = Part {

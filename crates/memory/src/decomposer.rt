@@ -4,9 +4,7 @@ ghost use Rattle.memory.specs.Decomposer.{chains_at, entering_at, leaving_at, ma
 
 use crate::layout::Layout;
 
-pub const CHAINS: usize = 2;
-
-pub const LASTS: usize = 3;
+const CHAINS: usize = 2;
 
 const ENTERING: usize = 6;
 
@@ -14,7 +12,7 @@ const LEAVING: usize = 7;
 
 const MARKS: usize = 7;
 
-pub const PENDING: usize = 8;
+const PENDING: usize = 8;
 
 const SEEDS: usize = 8;
 

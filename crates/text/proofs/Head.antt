@@ -7,9 +7,14 @@ use Rattle.graph.specs.declared.refusal.Refusal.{Refusal}
 use Rattle.graph.specs.declared.refusal.Refusal.TheVariants.{FirstLineFaulty, SizeLineFaulty}
 use Rattle.lines.specs.Pieces.{lines}
 use Rattle.lines.specs.Numbers.{numbers, longest_line, content}
-use Rattle.lines.specs.Answers.{found_of, shown}
+use Rattle.lines.specs.Answers.{found_of, shown, pieces_of}
 use Rattle.lines.specs.declared.numbers.Found.{Found}
 use Rattle.lines.proofs.Rows.{row_faulty, row_held, found_three}
+use Rattle.std.specs.Fn.{CalledAt}
+use Rattle.std.specs.Iterator.{YieldsFirstRef, Yields, FindsItem}
+use Rattle.std.specs.List.{FoldsTo}
+use denote.Param.Members.{Mut}
+use Rattle.lines.specs.declared.pieces.Pieces.{Pieces}
 use Rattle.text.specs.declared.header.Head.{Head}
 use Rattle.text.specs.declared.header.Limits.{Limits}
 use Rattle.text.specs.declared.Size.{Size}
@@ -69,20 +74,30 @@ module _ (line : List ℕ) where
           go [] q h = rw (← told, other, q, h)
           go (v ∷ vs) q h = rw (← told, other, q, h) (ne_eqb (suc (length vs)) 0 (suc-ne-zero (length vs)))
 
--- lines are passed over one by one
-module _ (ls now : List (List ℕ)) (so_far : pass_over ls ≡ pass_over now) where
-  pub pass_end : (rest : List (List ℕ)) → now ≡ [] → SizeLine ls None rest
+-- lines are passed over one by one, by a closure that says of each whether it is passed over
+abbrev steps : Pieces → Option (Bor (List ℕ)) → Pieces → Type 0
+steps p x q = YieldsFirstRef pieces_of p x q × (q.stop ≡ p.stop)
+
+module _ {F : Type 0} (g : Mut F (Bor (Bor (List ℕ)) × Unit {0}) Bool) (f : F) (says : (x : Bor (List ℕ)) (b : Bool) (q : F) → CalledAt g f x b q → (q ≡ f) × (b ≡ not (passed_over x.now))) where
+  passed : (s : Pieces) (xs : List (Bor (List ℕ))) (t : Pieces) (q : F) → Yields steps s xs t → FoldsTo (λ p x q. CalledAt g p x false q) f xs q
+      → (pass_over (pieces_of s) ≡ pass_over (pieces_of t)) × (t.stop ≡ s.stop) × (f ≡ q)
+  unfolding pass_over
+  passed s [] t q e k = (ap (λ (p : Pieces). pass_over (pieces_of p)) e, ap (λ (p : Pieces). p.stop) (sym e), k)
+  passed s (x ∷ xs) t q y k =
+      let said = says x false k.0 k.1 in
+      let next : FoldsTo (λ p x q. CalledAt g p x false q) f xs q = rw said.0 at k.2 in
+      let more = passed y.0 xs t q y.2 next in
+      (rw (y.1.0, not-false _ (sym said.1)) more.0, more.1 ∙ y.1.1, more.2)
+
+  pub size_line_found : (s u : Pieces) (r : Option (Bor (List ℕ))) → FindsItem steps g s f r u → SizeLine (pieces_of s) r (pieces_of u) × (u.stop ≡ s.stop)
   unfolding pass_over SizeLine
-  pass_end rest q = so_far ∙ rw q
-
-  module _ (line : Bor (List ℕ)) (after : List (List ℕ)) (is : now ≡ line.now ∷ after) (t : Bool) (told : t ≡ passed_over line.now) where
-    pub pass_step : t ≡ true → pass_over ls ≡ pass_over after
-    unfolding pass_over
-    pass_step f = so_far ∙ rw (is, ← told, f)
-
-    pub pass_stop : t ≡ false → SizeLine ls (Some line) after
-    unfolding pass_over SizeLine
-    pass_stop f = so_far ∙ rw (is, ← told, f)
+  size_line_found s u None d =
+      let more = passed s d.0 d.2.0 d.1 d.2.1 d.3 in
+      (more.0 ∙ rw d.2.2.0.0, d.2.2.1 ∙ more.1)
+  size_line_found s u (Some x) d =
+      let more = passed s d.0 d.2.0 d.1 d.2.1 d.3 in
+      let called : CalledAt g f x true d.4.0 = rw more.2 d.4.1 in
+      (more.0 ∙ rw (d.2.2.0, not-true _ (sym (says x true d.4.0 called).1)), d.2.2.1 ∙ more.1)
 
 -- the size line
 module _ (l : Limits) (line : List ℕ) (row : Option Found) (seen : row ≡ shown (content line)) where

@@ -46,12 +46,7 @@ fn size_line<'a>(lines: &mut Pieces<'a>) -> Option<&'a [u8]>
     ensures first { SizeLine (pieces_of lines.old) result (pieces_of lines.new) }
     ensures stop { lines.new.stop ≡ lines.old.stop }
 {
-    while let Some(line) = lines.next() {
-        if !passed_over(line) {
-            return Some(line);
-        }
-    }
-    None
+    lines.find(|line| !passed_over(line))
 }
 
 // The size line's numbers, with the tests in their order.

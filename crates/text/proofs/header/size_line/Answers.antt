@@ -1,12 +1,9 @@
-use Rattle.std.proofs.Common.{◌∙◌}
-use Rattle.text.proofs.Head.{pass_step, pass_stop, pass_end}
+use Rattle.std.proofs.Common.{rules, tests}
+use Rattle.text.proofs.Head.{size_line_found}
 use Rattle.text.proofs.header.size_line.Goals as goal
 
-pub returns-then-not-passed_over-clause-first : goal.returns-then-not-passed_over-clause-first
-returns-then-not-passed_over-clause-first c = pass_stop _ _ c.loop-line.invariant.0 _ _ c.in-Some.ensures.steps.0 _ c.passed_over.ensures c.if-not-passed_over.true
-
-pub loop-line-preserved : goal.loop-line-preserved
-loop-line-preserved c = (pass_step _ _ c.loop-line.invariant.0 c.in-Some.line _ c.in-Some.ensures.steps.0 _ c.passed_over.ensures c.if-not-passed_over.false, c.in-Some.ensures.steps.1 ∙ c.loop-line.invariant.1)
-
 pub returns-clause-first : goal.returns-clause-first
-returns-clause-first c = pass_end _ _ c.loop-line.invariant.0 _ c.in_default.ensures.steps.0.0
+returns-clause-first c = (size_line_found _ _ (λ x b q k. search (rules, tests)) c.args.lines.now c.find.new.self _ c.find.ensures.ran).0
+
+pub returns-clause-stop : goal.returns-clause-stop
+returns-clause-stop c = (size_line_found _ _ (λ x b q k. search (rules, tests)) c.args.lines.now c.find.new.self _ c.find.ensures.ran).1
