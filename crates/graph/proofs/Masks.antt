@@ -1,13 +1,12 @@
 -- Kinds and mask: what the mask has, and the table where it has every kind.
 use Prim.Native.Nat.{ℕ, ◌<◌, ◌≤◌}
 use native.Mathlib.Omega.{arith}
-use native.Mathlib.Decide.{ℕ_discrete}
-use mathlib.Core.Path.{◌≡◌, refl, sym, ap, fun_ext, ◌∙◌}
+use mathlib.Core.Path.{◌≡◌, ap, fun_ext, ◌∙◌}
 use mathlib.Core.Bool.{Bool, true, false, cond, not}
 use mathlib.Core.List.{List}
 use lib.ListN.{length, get_or, get_or-eq_default}
 use lib.Dec.{eqb, ltb, ltb→lt, not_T}
-use borrow.Author.Tests.{eq-eqb, ne_eqb, ltb-false}
+use borrow.Author.Tests.{eq-eqb, ltb-false}
 use Rattle.graph.specs.Graph.{Graph, graph, in_mask, table, full_mask, Kinds, KindOf}
 use Rattle.graph.specs.Limits.{most_vertices, most_edges, most_kinds, too_many_vertices, uneven_columns, too_many_edges}
 use Rattle.graph.specs.Refusal.{given, ◌or◌, outside, table_refusal, plain_refusal}
@@ -15,25 +14,9 @@ use Rattle.graph.specs.Numbers.{some_below}
 use Rattle.graph.proofs.Tests.{T_true, no_t, t_dec, some_below_iff}
 use Rattle.graph.proofs.Refusals.{or_pass, or_last, outside_no}
 
--- a digit of two
-pub digit_is : (x : ℕ) → x < 2 → x ≡ cond (eqb x 1) 1 0
-digit_is x h = elim (ℕ_discrete x 1) as (λ _. x ≡ cond (eqb x 1) 1 0) [
-  | yes e ↦ e ∙ ap (λ b. cond b 1 0) (sym (eq-eqb x 1 e))
-  | no e ↦ omega arith ∙ ap (λ b. cond b 1 0) (sym (ne_eqb x 1 e))
-]
-
 pub digit_low : (b : Bool) → cond b 1 0 ≤ 1
 digit_low true = omega arith
 digit_low false = omega arith
-
--- what it tells that a number is 1 or 0
-pub not_counted : (b : Bool) {k : ℕ} → k ≡ cond b 1 0 → k ≡ 0 → b ≡ false
-not_counted true p q = absurd (omega arith)
-not_counted false p q = refl
-
-pub is_counted : (b : Bool) {k : ℕ} → k ≡ cond b 1 0 → (k ≡ 0 → ⊥) → b ≡ true
-is_counted true p o = refl
-is_counted false p o = absurd (o p)
 
 -- the full mask has every kind
 full_has : (kind : ℕ) → kind < most_kinds → in_mask full_mask kind ≡ true
@@ -45,9 +28,6 @@ full_has kind h = elim (t_dec (in_mask full_mask kind)) as (λ _. in_mask full_m
 
 pub full_has_of : {mask : ℕ} (kind : ℕ) → kind < most_kinds → mask ≡ full_mask → in_mask mask kind ≡ true
 full_has_of kind h e = rw e (full_has kind h)
-
-pub full_counts : {mask : ℕ} (kind : ℕ) → kind < most_kinds → mask ≡ full_mask → ◌≡◌ {A = ℕ} 1 (cond (in_mask mask kind) 1 0)
-full_counts kind h e = rw (e, full_has kind h)
 
 module _ {m : ℕ} {kinds : List ℕ} (k : Kinds m kinds) where
   -- an edge number beyond the table has kind 0
