@@ -78,6 +78,7 @@ fn rise(label: &[u32], u: usize, v: usize) -> u32
 }
 
 // Edge e, which leaves u, goes: the vertex that waits for it is raised, and joins the queue if it waits for no other.
+// Targets and labels stay side by side: a `&Table` for the targets would have each clause say `at.n ≡ table.now.n`.
 fn settle(
     w: &mut [u32],
     at: Layout,

@@ -14,6 +14,7 @@ pub fn prepare(w: &mut [u32], at: Layout)
     requires { PrepareAsk at.n at.m at.base w.old }
     ensures { Prepared at.n at.m at.base w.old at.n w.new }
 {
+    // a sum, since `at.backward()` asks for `InLimits`
     let first = at.n + 1 + at.m;
     w.copy_within(first..first + at.n, at.entering());
     memory::fill(w, at.marks(), at.n, 0);
