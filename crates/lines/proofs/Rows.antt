@@ -1,5 +1,5 @@
 -- Numbers found word by word are the numbers of the line.
-use Rattle.std.proofs.Common.{ℕ, ◌+◌, ◌≤◌, ◌<◌, ◌≡◌, refl, sym, ◌∙◌, ap, eqb, true, false, List, [], ◌∷◌, ◌++◌, append-nil, append_assoc, length, get_or, set, length-append, drop_of_length-le, Option, Some, None, arith}
+use Rattle.std.proofs.Common.{ℕ, ◌+◌, ◌≤◌, ◌<◌, ◌≡◌, refl, sym, ◌∙◌, ap, eqb, true, false, List, [], ◌∷◌, ◌++◌, append-nil, append_assoc, length, get_or, length-append, drop_of_length-le, Option, Some, None, arith}
 use Rattle.std.proofs.Math.Seq.{drop-cons}
 use borrow.Author.Tests.{le-ltb, lt-ltb, eqb-true, eqb-false}
 use Rattle.lines.specs.declared.numbers.Found.{Found}
@@ -21,20 +21,6 @@ module _ (vs : List ℕ) (f : Found) (held : f ≡ found_of vs) where
 
   pub found_three : f.count ≡ 3 → vs ≡ get_or f.numbers 0 0 ∷ get_or f.numbers 1 0 ∷ get_or f.numbers 2 0 ∷ []
   found_three h = let m = many in rw held (drop-cons vs 0 0 (omega arith) ∙ rw (drop-cons vs 1 0 (omega arith), drop-cons vs 2 0 (omega arith), drop_of_length-le vs {i = 3} (omega arith)))
-
--- one more number: among the first three, or past them
-module _ (f : Found) (v : ℕ) where
-  pub and_first : (vs : List ℕ) → f.count < 3 → f ≡ found_of vs → ◌≡◌ {A = Found} (record { count = f.count + 1; numbers = set f.numbers f.count v }) (found_of (vs ++ (v ∷ [])))
-  and_first [] h e = rw e
-  and_first (a ∷ []) h e = rw e
-  and_first (a ∷ b ∷ []) h e = rw e
-  and_first (a ∷ b ∷ c ∷ vs) h e = absurd (omega (arith, ap (λ (g : Found). g.count) e))
-
-  pub and_later : (vs : List ℕ) → 3 ≤ f.count → f ≡ found_of vs → ◌≡◌ {A = Found} (record { count = f.count + 1; numbers = f.numbers }) (found_of (vs ++ (v ∷ [])))
-  and_later [] h e = absurd (omega (arith, ap (λ (g : Found). g.count) e))
-  and_later (a ∷ []) h e = absurd (omega (arith, ap (λ (g : Found). g.count) e))
-  and_later (a ∷ b ∷ []) h e = absurd (omega (arith, ap (λ (g : Found). g.count) e))
-  and_later (a ∷ b ∷ c ∷ vs) h e = rw e (let f : ℕ → Found = λ n. record { count = n; numbers = a ∷ b ∷ c ∷ [] } in ap f (omega (arith, length-append vs (v ∷ []))))
 
 -- numbers before those of what follows
 unfoldable pub ahead : List ℕ → Content → Content

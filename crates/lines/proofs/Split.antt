@@ -1,9 +1,8 @@
 -- Pieces: the first one, and those past it.
-use Rattle.std.proofs.Common.{ℕ, suc, ◌+◌, ◌≤◌, ◌<◌, ◌≡◌, refl, ap, sym, ◌∙◌, Bool, true, false, cond, not, eqb, ltb, List, [], ◌∷◌, length, take, drop, Option, Some, None, arith, ◌-◌, add-one, drop_of_length-le, length-drop}
+use Rattle.std.proofs.Common.{ℕ, suc, ◌+◌, ◌≤◌, ◌<◌, ◌≡◌, refl, ap, sym, ◌∙◌, Bool, true, false, cond, eqb, List, [], ◌∷◌, length, get_or, take, drop, arith, ◌-◌, add-one, drop_of_length-le, length-drop}
 use Rattle.std.proofs.lemmas.List.{take_all}
-use Rattle.std.proofs.Math.Seq.{take-length}
-use borrow.Author.Tests.{ltb-true, ltb-false, eqb-true, eqb-false}
-use Rattle.std.specs.List.{position, position_or_len}
+use Rattle.std.proofs.Math.Seq.{take-length, drop-cons}
+use borrow.Author.Tests.{eq-eqb, ne_eqb, eqb-true, eqb-false}
 use Rattle.lines.specs.Pieces.{before, split, run}
 use Rattle.lines.specs.Answers.{Cut}
 
@@ -23,40 +22,26 @@ unfolding split run
 split_first stop b [] = one stop b (eqb b stop)
 split_first stop b (c ∷ s) = first stop b (eqb b stop) (c ∷ s) (λ e. cc) (split_first stop c s)
 
--- the run ends at the first stop, or at the end
-run_step : (t : Bool) (m n : ℕ) → m ≡ n → cond t 0 (suc m) ≡ cond (not t) (1 + n) 0
-run_step true m n e = refl
-run_step false m n e = omega arith
+-- the first stop is looked for up to i
+module _ (stop : ℕ) (s : List ℕ) (i : ℕ) (so_far : run stop s ≡ i + run stop (drop i s)) where
+  pub cut_step : i < length s → (get_or s i 0 ≡ stop → ⊥) → run stop s ≡ i + 1 + run stop (drop (i + 1) s)
+  unfolding run
+  cut_step h n = so_far ∙ rw (add-one, drop-cons s i 0 h) (simp (ne_eqb _ _ n) (omega arith))
 
-run_is : (stop : ℕ) (s : List ℕ) → run stop s ≡ position_or_len (λ b. eqb b stop) s
-unfolding run
-run_is stop [] = refl
-run_is stop (b ∷ s) = run_step (eqb b stop) _ _ (run_is stop s)
+  pub cut_stop : i < length s → get_or s i 0 ≡ stop → Cut stop s (take i s) (take (length s - (i + 1)) (drop (i + 1) s))
+  unfolding run
+  cut_stop h e =
+      let r : run stop s ≡ i = so_far ∙ rw (drop-cons s i 0 h) (simp (eq-eqb _ _ e) (omega arith)) in
+      let l : length s - (i + 1) ≡ length (drop (i + 1) s) = sym (length-drop (i + 1) s) in
+      record { front = rw r; past = rw (l, take-length (drop (i + 1) s), r, add-one i) }
+
+  pub cut_end : length s ≤ i → Cut stop s s []
+  cut_end h =
+      let r : length s ≤ run stop s = omega arith in
+      let l : length s ≤ suc (run stop s) = omega arith in
+      record { front = sym (take_all (run stop s) s r); past = sym (drop_of_length-le s l) }
 
 module _ (stop : ℕ) (s : List ℕ) where
-  abbrev found : Bool → Option ℕ
-  found t = cond t (Some (position_or_len (λ b. eqb b stop) s)) None
-
-  at_stop : (t : Bool) → ltb (position_or_len (λ b. eqb b stop) s) (length s) ≡ t → (e : ℕ) → found t ≡ Some e → (run stop s ≡ e) × (e < length s)
-  at_stop true p e q = let n : position_or_len (λ b. eqb b stop) s ≡ e = cc in (run_is stop s ∙ n, omega (arith, n, ltb-true _ _ p))
-  at_stop false p e q = cc
-
-  at_end : (t : Bool) → ltb (position_or_len (λ b. eqb b stop) s) (length s) ≡ t → found t ≡ None → length s ≤ run stop s
-  at_end true p q = cc
-  at_end false p q = omega (arith, ltb-false _ _ p, run_is stop s)
-
-  pub cut_stop : (e : ℕ) → position (λ b. eqb b stop) s ≡ Some e → Cut stop s (take e s) (take (length s - (e + 1)) (drop (e + 1) s))
-  cut_stop e q =
-      let (r, h) = at_stop (ltb (position_or_len (λ b. eqb b stop) s) (length s)) refl e q in
-      let l : length s - (e + 1) ≡ length (drop (e + 1) s) = sym (length-drop (e + 1) s) in
-      record { front = rw r; past = rw (l, take-length (drop (e + 1) s), r, add-one e) }
-
-  pub cut_end : position (λ b. eqb b stop) s ≡ None → Cut stop s s []
-  cut_end q =
-      let h = at_end (ltb (position_or_len (λ b. eqb b stop) s) (length s)) refl q in
-      let l : length s ≤ suc (run stop s) = omega arith in
-      record { front = sym (take_all (run stop s) s h); past = sym (drop_of_length-le s l) }
-
   pub piece_none : eqb (length s) 0 ≡ true → split stop s ≡ []
   unfolding split
   piece_none e = let q : s ≡ [] = drop_of_length-le s {i = 0} (omega (arith, eqb-true (length s) 0 e)) in rw q

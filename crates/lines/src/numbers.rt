@@ -36,13 +36,16 @@ pub struct Found {
 }
 
 impl Found {
-    // The numbers found, and one more.
+    // The numbers found, and one more. The places are named one by one, so that the three stay in registers.
     pub fn and(mut self, value: u32) -> Found
         requires { self.count ≤ longest_line }
         ensures { (vs : List ℕ) → self ≡ found_of vs → result ≡ found_of (vs ++ (value ∷ [])) }
     {
-        if self.count < 3 {
-            self.numbers[self.count] = value;
+        match self.count {
+            0 => self.numbers[0] = value,
+            1 => self.numbers[1] = value,
+            2 => self.numbers[2] = value,
+            _ => {}
         }
         self.count += 1;
         self

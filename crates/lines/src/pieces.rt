@@ -43,10 +43,12 @@ impl<'a> Iterator for Pieces<'a> {
 pub fn cut(text: &[u8], stop: u8) -> (&[u8], &[u8])
     ensures { Cut stop text.now result.0.now result.1.now }
 {
-    match text.iter().position(|b| *b == stop) {
-        Some(end) => (&text[..end], &text[end + 1..]),
-        None => (text, &[]),
+    for (i, b) in text.iter().enumerate() {
+        if *b == stop {
+            return (&text[..i], &text[i + 1..]);
+        }
     }
+    (text, &[])
 }
 
 // The lines of a text.
