@@ -1,9 +1,9 @@
 -- Pieces: the first one, and those past it; and the same by places in the text.
-use Rattle.std.proofs.Common.{ℕ, suc, ◌+◌, ◌≤◌, ◌<◌, ◌≡◌, refl, ap, sym, ◌∙◌, Bool, true, false, cond, eqb, List, [], ◌∷◌, length, get_or, take, drop, arith, ◌-◌, add-one, drop_of_length-le, length-drop, length-take, ltb}
+use Rattle.std.proofs.Common.{ℕ, suc, ◌+◌, ◌≤◌, ◌<◌, ◌≡◌, refl, ap, sym, ◌∙◌, Bool, true, false, cond, eqb, List, [], ◌∷◌, length, get_or, take, drop, arith, ◌-◌, add-one, drop_of_length-le, length-drop, length-take, length-take-le, ltb}
 use Rattle.std.proofs.lemmas.List.{take_all}
 use native.Mathlib.Nat.{add-sub_cancel_left, add-suc}
 use Rattle.std.proofs.Math.Seq.{take-length, drop-cons, drop-drop}
-use borrow.Author.Tests.{eq-eqb, ne_eqb, eqb-true, eqb-false, ltb-true, ltb-false}
+use borrow.Author.Tests.{eq-eqb, ne_eqb, eqb-true, eqb-false, ltb-true, ltb-false, lt-ltb}
 use Rattle.lines.specs.Pieces.{before, split, run, piece_end, past_end, Place, At, None, piece_at}
 use Rattle.lines.specs.Answers.{Cut}
 
@@ -133,6 +133,10 @@ module _ (stop : ℕ) (s : List ℕ) (at : ℕ) where
         within = past_in e (length s) (ltb e (length s)) refl l;
         pieces = (cut_known stop (drop at s) _ _ (ne_eqb _ _ some) (place_cut h)).0;
       }
+
+  -- a cut of what stands from `at` on is the piece by places
+  pub cut_place : at < length s → (p r : List ℕ) → Cut stop (drop at s) p r → piece_at stop s at ≡ At at (at + length p) (past_end s (at + length p))
+  cut_place h p r c = rw (lt-ltb _ _ h, c.front, length-take-le (run stop (drop at s)) (drop at s) (run_le stop (drop at s)))
 
   module _ (a e n : ℕ) where
     its : (P : ℕ → ℕ → ℕ → Type 0) (t : Bool) → cond t (At at (piece_end stop s at) (past_end s (piece_end stop s at))) None ≡ At a e n → (t ≡ true → P at (piece_end stop s at) (past_end s (piece_end stop s at))) → P a e n
