@@ -16,6 +16,7 @@ pub mod plain;
 mod turns;
 
 // The labels by method 0 or 1, and the number of draws. Parts wait on the lent list; pivots are drawn on a copy of the chooser, and the lent one is advanced after.
+// `method` and `order` are numbers as C gives them: they are read after the tests of what is lent, since 8 comes after 7.
 pub fn decompose(
     table: &Table,
     method: u32,

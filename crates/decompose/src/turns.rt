@@ -1,4 +1,4 @@
-// The turns of the machine on the lent list: a thin walk over the covered step.
+// The turns of the machine on the lent list.
 ghost use Rattle.graph.specs.Arrows.{SomeOf, EveryOf};
 ghost use Rattle.decompose.specs.Turns.{DriveAsk, Driven};
 
@@ -18,9 +18,12 @@ pub fn drive(
     ensures { EveryOf at.n at.m (λ g. DriveAsk g at.base parts.old w.old words.old begun → Driven g parts.old w.old words.old begun parts.new w.new words.new result) }
 {
     let mut s = begun;
+    // a `while`, since each turn says whether another follows
     while let Some(i) = s.next {
-        s = s.step(w, words, at, parts[i]);
-        parts[i] = s.part;
+        // a name of its own until the record is put, which is faster: clearing needs few of its values
+        let next = s.step(w, words, at, parts[i]);
+        parts[i] = next.part;
+        s = next;
     }
     s
 }

@@ -1,4 +1,4 @@
-// The machine of the decomposer: covered code that decides what the next turn does with the list of waiting parts.
+// The machine of the decomposer: it decides what the next turn does with the list of waiting parts.
 #![tactic(auto)]
 
 ghost use Rattle.std.specs.Prelude.{◌≡◌};
@@ -44,7 +44,7 @@ pub struct Machine {
     // the place of the list that the next turn takes, None when nothing is left to do; and what the last turn put
     pub next: Option<usize>,
     pub part: Part,
-    // a copy of the lent chooser, advanced by the draws made
+    // a copy of the lent chooser, advanced by the draws made; its kind is a number, as C lends it
     pub chooser: Chooser,
     pub made: usize,
     pub order: Order,

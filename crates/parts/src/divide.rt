@@ -28,7 +28,7 @@ fn make(w: &mut [u32], at: Layout, h: usize, q: u32, method: Method)
     }
 }
 
-// The part whose first place is h is divided. The first places of its new parts stand from base + 8 n + 2 on.
+// The part whose first place is h is divided. No struct holds `top` and `method`: the part and `top` change, so each call would make it anew. The first places of its new parts stand from base + 8 n + 2 on.
 pub fn divide(
     w: &mut [u32],
     words: &mut [u64],

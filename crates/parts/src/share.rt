@@ -41,6 +41,7 @@ pub fn share(w: &mut [u32], at: Layout, first: usize, end: usize, h: usize) -> u
     let chains = at.chains();
     let mut k = 0;
     let mut i = h;
+    // a `while` along the chain, whose places are in no range
     while i < at.n {
         let y = w[chains + i] as usize;
         k = hang(w, at, i, k);

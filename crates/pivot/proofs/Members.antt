@@ -1,8 +1,7 @@
 -- The member at place j is the one below which j members stand.
-use Rattle.std.proofs.Common.{◌≡◌, ℕ, zero, suc, ◌+◌, ◌*◌, ◌<◌, ◌≤◌, Bool, ◌&&◌, T, eqb, ltb, List, length, Some, refl, sym, ◌∙◌, add-one, arith, lt→ltb}
-use native.Mathlib.Decide.{dec_lt, ℕ_discrete}
-use borrow.Author.Tests.{eq-eqb, ne_eqb}
-use Rattle.std.specs.List.{filter, slice_get, range_with_len}
+use Rattle.std.proofs.Common.{◌≡◌, ℕ, suc, ◌+◌, ◌-◌, ◌*◌, ◌<◌, ◌≤◌, Bool, false, ◌&&◌, T, eqb, ltb, List, length, sym, ◌∙◌, add-one, arith, lt→ltb}
+use native.Mathlib.Decide.{dec_lt}
+use borrow.Author.Tests.{eq-eqb}
 use Rattle.graph.specs.Numbers.{many, tally}
 use Rattle.graph.specs.Pivot.{member}
 use Rattle.graph.specs.Sets.{bit, members}
@@ -56,25 +55,22 @@ module _ {w : List ℕ} {n j : ℕ} (a : Within w n j) where
   pub within_words : (i k : ℕ) → length w ≤ i → tally (bit w) (i * 64) + k ≡ j → ⊥
   within_words i k h e = omega (arith, before_end (i * 64) k e, a.words)
 
--- of the m bits from v on the one that has k before it
-pub record Nth (w : List ℕ) (v m k : ℕ) : Type 0 where
-  pub place : ℕ
-  pub get : slice_get (filter (λ u. eqb (bit w u) 1) (range_with_len v m)) k ≡ Some place
-  pub low : place < v + m
-  pub is : bit w place ≡ 1
-  pub before : tally (bit w) place ≡ tally (bit w) v + k
+zero_bit : (w : List ℕ) (u : ℕ) → (bit w u ≡ 1 → ⊥) → bit w u ≡ 0
+zero_bit w u o = let l = bit_lt w u in omega (arith, o)
 
--- one bit more in front
-nth_next : (w : List ℕ) (v m : ℕ) → ((k : ℕ) → tally (bit w) (v + 1) + k < tally (bit w) ((v + 1) + m) → Nth w (v + 1) m k)
-    → (k : ℕ) → Dec (bit w v ≡ 1) → tally (bit w) v + k < tally (bit w) ((v + 1) + m) → Nth w v (suc m) k
-nth_next w v m rest k (no o) l =
-    let z = rest k (omega (arith, bits_next w v, bit_lt w v)) in
-    record { place = z.place; get = rw (ne_eqb (bit w v) 1 o) z.get; low = omega (arith, z.low); is = z.is; before = omega (arith, z.before, bits_next w v, bit_lt w v) }
-nth_next w v m rest zero (yes e) l = record { place = v; get = rw (eq-eqb (bit w v) 1 e) refl; low = omega arith; is = e; before = omega arith }
-nth_next w v m rest (suc k) (yes e) l =
-    let z = rest k (omega (arith, bits_next w v)) in
-    record { place = z.place; get = rw (eq-eqb (bit w v) 1 e) z.get; low = omega (arith, z.low); is = z.is; before = omega (arith, z.before, bits_next w v) }
+-- of the vertices from u on, k members stand before the one sought
+pub record Ahead (w : List ℕ) (n v rest u k : ℕ) : Type 0 where
+  pub low : tally (bit w) u + k < tally (bit w) n
+  pub same : tally (bit w) u + k ≡ tally (bit w) v + rest
 
-pub nth_bit : (w : List ℕ) (v m k : ℕ) → tally (bit w) v + k < tally (bit w) (v + m) → Nth w v m k
-nth_bit w v zero k h = let e : v + 0 ≡ v = omega arith in absurd (omega (arith, rw e at h))
-nth_bit w v (suc m) k h = nth_next w v m (nth_bit w (v + 1) m) k (ℕ_discrete (bit w v) 1) (let e : v + suc m ≡ (v + 1) + m = omega arith in rw e at h)
+pub ahead_found : {w : List ℕ} {n v rest u k : ℕ} → Ahead w n v rest u k → u < n → bit w u ≡ 1 → k ≡ 0 → Found w n v rest u
+ahead_found a l b e = record { low = l; is = b; before = omega (arith, a.same) }
+
+-- a member is passed over, or what is none
+pub ahead_member : {w : List ℕ} {n v rest u k : ℕ} → Ahead w n v rest u k → bit w u ≡ 1 → 0 < k → Ahead w n v rest (u + 1) (k - 1)
+ahead_member {w} {u = u} a b l = record { low = omega (arith, a.low, bits_next w u); same = omega (arith, a.same, bits_next w u) }
+
+pub ahead_other : {w : List ℕ} {n v rest u k : ℕ} → Ahead w n v rest u k → eqb (bit w u) 1 ≡ false → Ahead w n v rest (u + 1) k
+ahead_other {w} {u = u} a o =
+    let z : bit w u ≡ 0 = zero_bit w u (λ e. absurd (cc (o, eq-eqb (bit w u) 1 e))) in
+    record { low = omega (arith, z, a.low, bits_next w u); same = omega (arith, z, a.same, bits_next w u) }

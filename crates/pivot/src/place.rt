@@ -9,10 +9,16 @@ fn from(words: &[u64], n: usize, v: usize, rest: usize) -> usize
     requires { From words.now n v rest }
     ensures { Found words.now n v rest result }
 {
-    (v..n)
-        .filter(|u| sets::has(words, *u))
-        .nth(rest)
-        .unwrap_or(n)
+    let mut k = rest;
+    for u in v..n {
+        if sets::has(words, u) {
+            if k == 0 {
+                return u;
+            }
+            k -= 1;
+        }
+    }
+    n
 }
 
 // The member at place j: by counts of ones word by word, then within the word.

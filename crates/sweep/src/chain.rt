@@ -41,6 +41,7 @@ pub fn sweep(w: &mut [u32], at: Layout, h: usize, q: u32, top0: usize, method: M
     let chains = at.chains();
     let mut top = top0;
     let mut i = h;
+    // a `while` along the chain, whose places are in no range
     while i < at.n {
         let y = w[chains + i] as usize;
         top = turn(w, at, i, q, top, method);

@@ -8,16 +8,17 @@ use crate::{Method, Outcome, set};
 use memory::layout::Layout;
 use paint::Map;
 
-// The generator's state, how many vertices are left of the part, and the first colour that no part has.
+// What is left of a part: the generator's state, the number of its vertices, and the first colour that no part has.
 #[derive(Clone, Copy)]
-struct Course {
+struct Rest {
     state: u32,
     left: usize,
     top: usize,
 }
 
 // `split::split`, where the set loses what each search has painted. Not one function with it: a trait for a search with a set or with none is longer, and `chain` has no set to pass.
-fn split(w: &mut [u32], words: &mut [u64], at: Layout, p: usize, q: u32, now: Course) -> Course
+// A closure is no plainer: it would write the memory and the set, and its contract would need a relation for both.
+fn split(w: &mut [u32], words: &mut [u64], at: Layout, p: usize, q: u32, now: Rest) -> Rest
     requires { SomeOf at.n at.m (λ g. PickAsk g 0 at.base p q now.top w.old words.old now.left) }
     ensures picked { EveryOf at.n at.m (λ g. PickAsk g 0 at.base p q now.top w.old words.old now.left → Picked g 0 at.base p q now.top w.old w.new words.new result.left result.top) }
     ensures state { result.state ≡ now.state }
@@ -38,7 +39,7 @@ fn split(w: &mut [u32], words: &mut [u64], at: Layout, p: usize, q: u32, now: Co
     let s = set::search(w, words, at.forward(), p, reached, now.left);
     let t = set::search(w, words, at.backward(), p, reaching, s.left);
     split::label(w, at, t.k, f + 2);
-    Course {
+    Rest {
         left: t.left,
         top: now.top + 2,
         ..now
@@ -46,7 +47,7 @@ fn split(w: &mut [u32], words: &mut [u64], at: Layout, p: usize, q: u32, now: Co
 }
 
 // `slices::slice::slice`, where the set loses what the search has painted; two functions for the same reason.
-fn slice(w: &mut [u32], words: &mut [u64], at: Layout, p: usize, q: u32, now: Course) -> Course
+fn slice(w: &mut [u32], words: &mut [u64], at: Layout, p: usize, q: u32, now: Rest) -> Rest
     requires { SomeOf at.n at.m (λ g. PickAsk g 1 at.base p q now.top w.old words.old now.left) }
     ensures picked { EveryOf at.n at.m (λ g. PickAsk g 1 at.base p q now.top w.old words.old now.left → Picked g 1 at.base p q now.top w.old w.new words.new result.left result.top) }
     ensures state { result.state ≡ now.state }
@@ -60,7 +61,7 @@ fn slice(w: &mut [u32], words: &mut [u64], at: Layout, p: usize, q: u32, now: Co
     };
     let s = set::search(w, words, at.forward(), p, reached, now.left);
     slices::seeds::mark(w, at, p, r, 0);
-    Course {
+    Rest {
         left: s.left,
         top: slices::slice::cuts(w, at, r, now.top),
         ..now
@@ -74,9 +75,9 @@ fn take(
     at: Layout,
     p: usize,
     q: u32,
-    now: Course,
+    now: Rest,
     method: Method,
-) -> Course
+) -> Rest
     requires { SomeOf at.n at.m (λ g. PickAsk g (slicing_of method) at.base p q now.top w.old words.old now.left) }
     ensures picked { EveryOf at.n at.m (λ g. PickAsk g (slicing_of method) at.base p q now.top w.old words.old now.left → Picked g (slicing_of method) at.base p q now.top w.old w.new words.new result.left result.top) }
     ensures state { result.state ≡ now.state }
@@ -88,13 +89,13 @@ fn take(
 }
 
 // One draw: the pivot is the vertex drawn from what is left of the part q.
-fn turn(w: &mut [u32], words: &mut [u64], at: Layout, q: u32, now: Course, method: Method) -> Course
+fn turn(w: &mut [u32], words: &mut [u64], at: Layout, q: u32, now: Rest, method: Method) -> Rest
     requires { SomeOf at.n at.m (λ g. DrawAsk g (slicing_of method) at.base q now.top w.old words.old now.left) }
     ensures { EveryOf at.n at.m (λ g. DrawAsk g (slicing_of method) at.base q now.top w.old words.old now.left → Drawn g (slicing_of method) at.base q now.state now.top w.old w.new words.new result.state result.left result.top) }
 {
     let s = pivot::chooser::next(now.state);
     let p = pivot::place::select(words, at.n, s as usize % now.left);
-    take(w, words, at, p, q, Course { state: s, ..now }, method)
+    take(w, words, at, p, q, Rest { state: s, ..now }, method)
 }
 
 // Draws, until nothing is left of the part q.
@@ -103,7 +104,7 @@ fn run(
     words: &mut [u64],
     at: Layout,
     q: u32,
-    begun: Course,
+    begun: Rest,
     method: Method,
 ) -> Outcome
     requires { SomeOf at.n at.m (λ g. RunAsk g (slicing_of method) at.base q begun.top w.old words.old begun.left) }
@@ -111,13 +112,14 @@ fn run(
 {
     let mut now = begun;
     let mut draws: usize = 0;
+    // a `while`, since what a draw leaves is in no range
     while 0 < now.left {
         now = turn(w, words, at, q, now, method);
         draws += 1;
     }
     Outcome {
         state: now.state,
-        draws: draws,
+        draws,
         top: now.top,
     }
 }
@@ -137,5 +139,5 @@ pub fn sweep(
     ensures { EveryOf at.n at.m (λ g. DrawnAsk g (slicing_of method) at.base h q top w.old words.old → SweptDrawn g (slicing_of method) at.base q state top w.old w.new words.new result.state result.draws result.top) }
 {
     let left = set::mark(w, words, at, h, q);
-    run(w, words, at, q, Course { state, left, top }, method)
+    run(w, words, at, q, Rest { state, left, top }, method)
 }

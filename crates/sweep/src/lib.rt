@@ -43,6 +43,7 @@ pub struct Outcome {
 }
 
 // The part q, whose chain begins at place h, is swept by pivots that the chooser chooses.
+// No struct holds `q`, `top` and `method`: the part and `top` change, so each call would make it anew.
 pub fn sweep(
     w: &mut [u32],
     words: &mut [u64],

@@ -34,6 +34,7 @@ pub fn mark(w: &[u32], words: &mut [u64], at: Layout, h: usize, q: u32) -> usize
     let chains = at.chains();
     let mut k = 0;
     let mut i = h;
+    // a `while` along the chain, whose places are in no range
     while i < at.n {
         k = enter(w, words, at, i, q, k);
         i = w[chains + i] as usize;

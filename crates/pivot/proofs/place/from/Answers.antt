@@ -1,19 +1,14 @@
-use Rattle.std.proofs.Common.{ℕ, ◌≡◌, ◌+◌, ◌-◌, eqb, Option, None, Some, option_map, unwrap_or, ◌∙◌, refl, rules, tests, arith}
-use Rattle.std.proofs.lemmas.Iterator.{YieldsList-from_range}
-use Rattle.std.proofs.lemmas.Iterator.Consumers.{nth_from_yields_List, YieldsList-from_filter}
-use Rattle.graph.specs.Sets.{bit}
-use Rattle.pivot.proofs.Members.{nth_bit}
+use Rattle.std.proofs.Common.{refl, sym, arith}
+use borrow.Author.Tests.{eqb-true}
+use Rattle.pivot.proofs.Members.{ahead_member, ahead_other}
+use Rattle.pivot.proofs.place.from.Goals.{then-has+else-k-eq0, else-has}
 use Rattle.pivot.proofs.place.from.Goals as goal
 
-given : (o : Option ℕ) (x d : ℕ) → option_map (λ y. y) o ≡ Some x → unwrap_or o d ≡ x
-given (Some y) x d e = cc
-given None x d e = absurd (cc)
+pub loop-u-init : goal.loop-u-init
+loop-u-init c = record { low = c.requires.low; same = refl }
 
-pub returns : goal.returns
-returns c =
-    let all : c.args.v + (c.args.n - c.args.v) ≡ c.args.n = omega arith in
-    let z = nth_bit c.args.words.now c.args.v (c.args.n - c.args.v) c.args.rest (rw all c.requires.low) in
-    let g = nth_from_yields_List c.nth.result c.nth.new.self _ c.nth.ensures.ran
-    (YieldsList-from_filter _ (λ u. eqb (bit c.args.words.now u) 1) (YieldsList-from_range c.args.v c.args.n (c.args.n - c.args.v) (cc) refl) c.filter.ensures.closure (λ x r q k. search (rules, tests))) in
-    let e : c.unwrap_or.result ≡ z.place = c.unwrap_or.ensures ∙ given c.nth.result z.place c.args.n (g ∙ z.get) in
-    rw e (record { low = omega (arith, z.low); is = z.is; before = z.before })
+pub loop-u-preserved : goal.loop-u-preserved
+loop-u-preserved c = elim c.if-has.branch [
+  | then-has+else-k-eq0 w ↦ rw w.k-is (ahead_member c.loop-u.invariant (eqb-true _ 1 (sym w.if-has.ensures)) (omega (arith, w.if-k-eq0.false)))
+  | else-has w ↦ rw w.k-is (ahead_other c.loop-u.invariant (sym w.if-has.ensures))
+]
