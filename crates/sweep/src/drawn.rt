@@ -99,14 +99,7 @@ fn turn(w: &mut [u32], words: &mut [u64], at: Layout, q: u32, now: Rest, method:
 }
 
 // Draws, until nothing is left of the part q.
-fn run(
-    w: &mut [u32],
-    words: &mut [u64],
-    at: Layout,
-    q: u32,
-    begun: Rest,
-    method: Method,
-) -> Outcome
+fn run(w: &mut [u32], words: &mut [u64], at: Layout, q: u32, begun: Rest, method: Method) -> Outcome
     requires { SomeOf at.n at.m (λ g. RunAsk g (slicing_of method) at.base q begun.top w.old words.old begun.left) }
     ensures { EveryOf at.n at.m (λ g. RunAsk g (slicing_of method) at.base q begun.top w.old words.old begun.left → SweptDrawn g (slicing_of method) at.base q begun.state begun.top w.old w.new words.new result.state result.draws result.top) }
 {
