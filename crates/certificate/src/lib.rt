@@ -26,7 +26,7 @@ fn refusal(table: &Table, columns: &Columns, numbers: &[u32], words: &[u64]) -> 
     Ok(())
 }
 
-// The five columns become what stands in their regions. They stay side by side: of a struct of `&mut` slices a clause names what each ends with by its place alone, `columns.exit.1.1.0.now`.
+// The five columns become what stands in their regions. They stay side by side: of a struct of `&mut` slices a clause could name what each ends with by its place alone.
 fn hand(
     n: usize,
     m: usize,

@@ -12,7 +12,7 @@ pub fn labelled(n: usize, sources: &[u32], targets: &[u32], label: &mut [u32])
     requires { LabelAsk n sources.now targets.now label.old }
     ensures { label.new ≡ labels (graph n sources.now targets.now) }
 {
-    let kinds = [0u8; 4096];
+    let kinds = [0u8; crate::MOST_EDGES];
     let mut numbers = [0u32; 14352];
     let mut words = [0u64; 48];
     let table = Table {

@@ -6,7 +6,7 @@ ghost use Rattle.std.specs.Prelude.{◌≡◌, ◌≤◌, cond, ltb, length, IfO
 use std::io;
 use std::io::Read;
 
-// The count of bytes at the front of the buffer; 0 if it has fewer.
+// The count of bytes at the front of the buffer; 0 if it has fewer, and no Option: the front that is written is then empty.
 pub fn fitting(bytes: usize, buf: &[u8]) -> usize
     ensures within { result ≤ length buf.now }
     ensures all { bytes ≤ length buf.now → result ≡ bytes }

@@ -16,7 +16,7 @@ use moves::Regions;
 mod search;
 
 // The first of 1, 2, 21, 3, 4, 22, 5, 6 that applies.
-fn check(table: &Table, label: &[u32], numbers: &[u32], words: &[u64]) -> Result<(), Refusal>
+fn refusal(table: &Table, label: &[u32], numbers: &[u32], words: &[u64]) -> Result<(), Refusal>
     ensures { said result ≡ label_refusal (call table.now label.now numbers.now words.now) }
 {
     table.check()?;
@@ -52,7 +52,7 @@ pub fn label(
 ) -> Result<(), Refusal>
     ensures { Promise (call table.now label.old numbers.old words.old) label.new numbers.new words.new (said result) }
 {
-    check(table, label, numbers, words)?;
+    refusal(table, label, numbers, words)?;
     find(table, label, numbers);
     memory::clear(table.n, table.sources.len(), numbers, words);
     Ok(())

@@ -1,5 +1,5 @@
 -- A text in pieces, each ended by one byte. The last may lack it, and nothing stands after a final one.
-use Rattle.std.specs.Prelude.{ℕ, suc, cond, List, [], ◌∷◌, eqb}
+use Rattle.std.specs.Prelude.{ℕ, suc, ◌+◌, cond, List, [], ◌∷◌, eqb, ltb, length, drop}
 
 -- a byte put before the first piece
 unfoldable pub before : ℕ → List (List ℕ) → List (List ℕ)
@@ -22,3 +22,23 @@ lines text = split LF text
 unfoldable pub run : ℕ → List ℕ → ℕ
 run stop [] = 0
 run stop (b ∷ bs) = cond (eqb b stop) 0 (suc (run stop bs))
+
+-- where the piece that starts at `at` ends
+abbrev pub piece_end : ℕ → List ℕ → ℕ → ℕ
+piece_end stop s at = at + run stop (drop at s)
+
+-- where the piece after one that ends at e starts: past what ends it, or at the end of the text
+abbrev pub past_end : List ℕ → ℕ → ℕ
+past_end s e = cond (ltb e (length s)) (e + 1) e
+
+-- a piece by its start, its end and where the next one starts, or none
+pub data Place : Type 0 where
+  At : ℕ → ℕ → ℕ → Place
+  None : Place
+
+-- the piece that starts at `at`; none where `at` is at the end of the text
+abbrev pub piece_at : ℕ → List ℕ → ℕ → Place
+piece_at stop s at = cond (ltb at (length s)) (At at (piece_end stop s at) (past_end s (piece_end stop s at))) None
+
+abbrev pub line_at : List ℕ → ℕ → Place
+line_at s at = piece_at LF s at

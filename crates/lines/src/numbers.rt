@@ -36,7 +36,7 @@ pub struct Found {
 }
 
 impl Found {
-    // The numbers found, and one more. The places are named one by one, so that the three stay in registers.
+    // The numbers found, and one more. The places are named one by one, since `numbers[count]` was slower: so the three stay in registers.
     pub fn and(mut self, value: u32) -> Found
         requires { self.count ≤ longest_line }
         ensures { (vs : List ℕ) → self ≡ found_of vs → result ≡ found_of (vs ++ (value ∷ [])) }

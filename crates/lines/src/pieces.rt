@@ -39,7 +39,7 @@ impl<'a> Iterator for Pieces<'a> {
     }
 }
 
-// What stands before the first byte that ends a piece, and what stands past it.
+// What stands before the first byte that ends a piece, and what stands past it. By a `for`, since `position` was slower.
 pub fn cut(text: &[u8], stop: u8) -> (&[u8], &[u8])
     ensures { Cut stop text.now result.0.now result.1.now }
 {

@@ -11,7 +11,7 @@ pub struct Regions {
     pub base: usize,
 }
 
-// Where the search stands: how many are on the stack, segments of it, how many on the path; the path's last vertex, its next edge and the end of its edges. The steps that the call counted which led here.
+// Where the search stands: how many are on the stack, segments of it, how many on the path; the path's last vertex, its next edge and the end of its edges; and the steps of the call that led here.
 #[derive(Clone, Copy)]
 pub struct Stand {
     pub stack: usize,

@@ -14,7 +14,7 @@ pub fn begin(w: &mut [u32], at: Regions, label: &mut [u32], r: usize)
     w[at.base + at.n] = (at.n + 1) as u32;
 }
 
-// The path's last is kept on the path, with the edge behind the cursor as its next; the vertex at the cursor is put on the stack as a segment of its own, and ends the path.
+// The path's last waits at the edge behind the cursor; the vertex at the cursor ends the path, on the stack as a segment of its own.
 pub fn enter(w: &mut [u32], at: Regions, label: &mut [u32], stand: Stand) -> Stand
     requires { EnterAsk at.n at.base stand.top stand.cursor stand.stack stand.fronts stand.path label.old w.old }
     ensures { (label.new ≡ entered_colours at.n stand.cursor stand.stack w.old label.old) × (w.new ≡ entered at.n at.base stand.top stand.cursor stand.stack stand.fronts stand.path w.old) × (result ≡ entered_stand at.n stand.cursor stand.stack stand.fronts stand.path stand.steps w.old) }

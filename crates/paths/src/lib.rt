@@ -12,7 +12,7 @@ use graph::table::Table;
 pub mod walk;
 
 // The first of 1, 2, 21, 3, 4, 22, 6, 9 that applies: all are known before the search.
-fn check(table: &Table, u: usize, v: usize, numbers: &[u32], words: &[u64]) -> Result<(), Refusal>
+fn refusal(table: &Table, u: usize, v: usize, numbers: &[u32], words: &[u64]) -> Result<(), Refusal>
     ensures { said result ≡ ask_refusal table.now.n table.now.sources.now table.now.targets.now table.now.kinds.now u v (length numbers.now) (length words.now) }
 {
     table.check()?;
@@ -36,7 +36,7 @@ pub fn path(
 ) -> Result<usize, Refusal>
     ensures { Promise (call table.now u v room.old numbers.old words.old) room.new numbers.new words.new result }
 {
-    check(table, u, v, numbers, words)?;
+    refusal(table, u, v, numbers, words)?;
     walk::find(table, u, numbers);
     let answer = walk::settle(table, v, numbers, room);
     memory::clear(table.n, table.sources.len(), numbers, words);

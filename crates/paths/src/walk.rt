@@ -32,6 +32,7 @@ fn first(sources: &[u32], edges: &[u32], colours: &[u32], d: usize) -> usize
     requires { FirstAsk sources.now edges.now colours.now }
     ensures { First sources.now edges.now colours.now d result }
 {
+    // by a `for`, not by `position`: so the order of the looks is a fact of its own, at which a look from the last edge back is refused
     for (i, e) in edges.iter().enumerate() {
         let x = sources[*e as usize] as usize;
         if colours[x] as usize == d {

@@ -11,6 +11,7 @@ fn find(w: &[u32], along: Direction, q: u32, i0: usize, t: usize) -> usize
     ensures { Found (along.index + along.n + 1) along.base q i0 t w.now result }
 {
     let others = along.index + along.n + 1;
+    // a `for`, not `find`: its closure would index w and ask for a `requires` of its own, which is no plainer
     for i in i0..t {
         let x = w[others + i] as usize;
         if w[along.base + x] == q {

@@ -20,7 +20,7 @@ fn lead(w: &[u32], at: Layout, label: &[u32], u: usize, v: usize, e: usize) -> O
         return Some(label[v] as usize);
     }
     let x = w[at.base + IN_EDGES * at.n + v] as usize;
-    if x == e { Some(v) } else { None }
+    (x == e).then_some(v)
 }
 
 // How many counted edges each vertex waits for; place n has those that no vertex waits for, so that no branch is needed.
@@ -57,7 +57,7 @@ fn free(w: &mut [u32], at: Layout, v: usize, k: usize) -> usize
     k + 1
 }
 
-// The queue of what waits for nothing.
+// The queue of what waits for nothing, and its length as a number: the queue stands in w, which is written, so no slice of it can be lent beside w.
 fn frees(w: &mut [u32], at: Layout) -> usize
     requires { FreesAsk at.n at.base w.old }
     ensures { Frees at.n at.base at.n w.old w.new result }

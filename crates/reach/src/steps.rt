@@ -47,7 +47,7 @@ fn choose(n: usize, starts: &[u64], permitted: &[u64], r: &mut [u64])
     sets::clip(r, n);
 }
 
-// The members of the set are painted and queued. The queue's length.
+// The members of the set are painted and queued. The queue's length, as a number: no slice of w can be lent beside w, which is written.
 fn begin(w: &mut [u32], along: Direction, r: &[u64]) -> usize
     requires { BeginAsk along.n along.base r.now w.old }
     ensures { BegunBelow along.n along.n along.base r.now w.old w.new result }
@@ -66,8 +66,9 @@ fn gather(w: &[u32], along: Direction, k: usize, r: &mut [u64])
     requires { GatherAsk (along.base + along.n) k w.now r.old }
     ensures { Gathered (along.base + along.n) k w.now r.old r.new }
 {
-    for i in 0..k {
-        sets::add(r, w[along.base + along.n + i] as usize);
+    let queue = along.base + along.n;
+    for v in &w[queue..queue + k] {
+        sets::add(r, *v as usize);
     }
 }
 

@@ -171,6 +171,19 @@ module _ (f : Edge → ℕ) (es : List Edge) (s₀ : List ℕ) where
     half_end : Half f es [] s₀ k s → s ≡ column f es s₀
     half_end a = sym (a.is ∙ take-append-drop k s)
 
+-- past the last edge the lines are blank
+module _ (n : ℕ) (es : List Edge) where
+  blank : (ls : List (List ℕ)) (r : Result (Option Edge)) → (entries n 0 ls ≡ done es → es ≡ []) → at_entry r 0 (λ i. entries n i ls) ≡ done es → es ≡ []
+  unfolding at_entry
+  blank ls (done None) h q = h q
+  blank ls (done (Some a)) h q = cc
+  blank ls (refused k) h q = cc
+
+  blanks : (ls : List (List ℕ)) → entries n 0 ls ≡ done es → es ≡ []
+  unfolding entries
+  blanks [] q = let o : ◌≡◌ {A = Result (List Edge)} (done []) (done es) = q in cc
+  blanks (l ∷ ls) q = blank ls (entry_of n (content l)) (blanks ls) q
+
 -- the table is written up to place k, and the lines `now` are left
 pub record Filling (text : List ℕ) (size : Size) (s₀ t₀ : List ℕ) (now : List (List ℕ)) (k : ℕ) (s t : List ℕ) : Type 0 where
   pub ask : FillAsk text size s₀ t₀
@@ -189,14 +202,21 @@ module _ (text : List ℕ) (size : Size) (s₀ t₀ : List ℕ) where
       record { ask = a; left = a.edges; more = rw (e, z) a.reads; low = omega arith; sources = s; targets = t }
 
   module _ (now : List (List ℕ)) (k : ℕ) (s t : List ℕ) (f : Filling text size s₀ t₀ now k s t) where
-    pub filling_end : now ≡ [] → Filled text size s₀ t₀ s t
-    unfolding edges_of entries
-    filling_end e =
-        let none : f.left ≡ [] = nothing (size.edges - k) f.left (rw e at f.more) in
+    filled : f.left ≡ [] → Filled text size s₀ t₀ s t
+    unfolding edges_of
+    filled none =
         record {
           sources = rw f.ask.reads (half_end (λ a. a.source) f.ask.edges s₀ k s (rw none at f.sources));
           targets = rw f.ask.reads (half_end (λ a. a.target) f.ask.edges t₀ k t (rw none at f.targets));
         }
+
+    -- the last edge is written: the lines that are left are blank
+    pub filling_full : k ≡ size.edges → Filled text size s₀ t₀ s t
+    filling_full e = let z : size.edges - k ≡ 0 = omega arith in filled (blanks size.n f.left now (rw z at f.more))
+
+    pub filling_end : now ≡ [] → Filled text size s₀ t₀ s t
+    unfolding entries
+    filling_end e = filled (nothing (size.edges - k) f.left (rw e at f.more))
       where
         nothing : (j : ℕ) (left : List Edge) → entries size.n j [] ≡ done left → left ≡ []
         nothing zero left q = let o : ◌≡◌ {A = Result (List Edge)} (done []) (done left) = q in cc

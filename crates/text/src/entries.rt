@@ -65,13 +65,16 @@ pub fn check(text: &[u8], size: Size) -> Result<(), Refusal>
     }
 }
 
-// Writes the edges of entry lines that were judged right.
+// Writes the edges of entry lines that were judged right, up to the last edge.
 pub fn fill(text: &[u8], size: Size, sources: &mut [u32], targets: &mut [u32])
     requires { FillAsk text.now size sources.old targets.old }
     ensures { Filled text.now size sources.old targets.old sources.new targets.new }
 {
     let mut k = 0;
     for line in pieces::lines(text) {
+        if k == size.edges {
+            break;
+        }
         if let Some(edge) = entry_of(line, size.n).unwrap_or(None) {
             sources[k] = edge.source;
             targets[k] = edge.target;

@@ -39,8 +39,8 @@ fn collect(w: &[u32], at: Layout, q: u32, left: &mut [u64])
     requires { CollectAsk at.n at.base w.now left.old }
     ensures { Collected at.n at.base q w.now left.old left.new }
 {
-    for v in 0..at.n {
-        if w[at.base + v] == q {
+    for (v, colour) in w[at.base..at.base + at.n].iter().enumerate() {
+        if *colour == q {
             sets::add(left, v);
         }
     }

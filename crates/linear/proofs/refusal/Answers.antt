@@ -5,7 +5,7 @@ use Rattle.graph.specs.Refusal.{given, ◌or◌}
 use Rattle.graph.proofs.Refusals.{table_limits}
 use Rattle.graph.proofs.Reasons.{or_err}
 use Rattle.linear.specs.Promise.{refusal_on}
-use Rattle.linear.proofs.check.Goals as goal
+use Rattle.linear.proofs.refusal.Goals as goal
 
 pub returns-in_err-check : goal.returns-in_err-check
 unfolding refusal_on

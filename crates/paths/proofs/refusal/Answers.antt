@@ -5,8 +5,8 @@ use Rattle.graph.specs.Refusal.{given, ◌or◌}
 use Rattle.graph.proofs.Refusals.{table_limits}
 use Rattle.graph.proofs.Reasons.{or_err}
 use Rattle.paths.specs.Promise.{ask_on}
-use Rattle.paths.proofs.check.Goals as goal
-use Rattle.paths.proofs.check.Goals.{then-table-u-via-then-table-u, then-table-u-via-else-table-u+then-table-v}
+use Rattle.paths.proofs.refusal.Goals as goal
+use Rattle.paths.proofs.refusal.Goals.{then-table-u-via-then-table-u, then-table-u-via-else-table-u+then-table-v}
 
 pub returns-in_err-check : goal.returns-in_err-check
 unfolding ask_on
