@@ -20,10 +20,8 @@ pub fn drive(
     let mut s = begun;
     // a `while`, since each turn says whether another follows
     while let Some(i) = s.next {
-        // a name of its own until the record is put, which is faster: clearing needs few of its values
-        let next = s.step(w, words, at, parts[i]);
-        parts[i] = next.part;
-        s = next;
+        s = s.step(w, words, at, parts[i]);
+        parts[i] = s.part;
     }
     s
 }

@@ -27,8 +27,8 @@ offset_bounds-parts-i c = let (g, q) = c.requires in omega (arith, driving_low (
 pub slice_copy_out-step : goal.slice_copy_out-step
 slice_copy_out-step c = let (g, q) = c.requires in omega (arith, driving_read (c.loop-s.invariant g q) c.in-Some.is)
 
-pub step-next-requires : goal.step-next-requires
-step-next-requires c = let (g, q) = c.requires in (g, asked c.loop-s.invariant c.in-Some.is g q)
+pub step-s-requires : goal.step-s-requires
+step-s-requires c = let (g, q) = c.requires in (g, asked c.loop-s.invariant c.in-Some.is g q)
 
 pub offset_bounds-parts-i-in-Some : goal.offset_bounds-parts-i-in-Some
 offset_bounds-parts-i-in-Some c = let (g, q) = c.requires in omega (arith, driving_low (c.loop-s.invariant g q) c.in-Some.is)
@@ -37,7 +37,7 @@ pub bounds-parts-i : goal.bounds-parts-i
 bounds-parts-i c = let (g, q) = c.requires in omega (arith, driving_read (c.loop-s.invariant g q) c.in-Some.is)
 
 pub loop-s-smaller : goal.loop-s-smaller
-loop-s-smaller c = let (g, q) = c.requires in driving_less (c.loop-s.invariant g q) c.in-Some.is (stepped c.loop-s.invariant c.in-Some.is c.step-next.ensures g q)
+loop-s-smaller c = let (g, q) = c.requires in driving_less (c.loop-s.invariant g q) c.in-Some.is (stepped c.loop-s.invariant c.in-Some.is c.step-s.ensures g q)
 
 pub loop-s-preserved : goal.loop-s-preserved
-loop-s-preserved c = λ g q. driving_turn (c.loop-s.invariant g q) c.in-Some.is (stepped c.loop-s.invariant c.in-Some.is c.step-next.ensures g q)
+loop-s-preserved c = λ g q. driving_turn (c.loop-s.invariant g q) c.in-Some.is (stepped c.loop-s.invariant c.in-Some.is c.step-s.ensures g q)
