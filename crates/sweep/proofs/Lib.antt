@@ -1,4 +1,5 @@
 pub mod Methods
+pub mod Alike
 pub mod Taking
 pub mod Sweeping
 pub mod Marking

@@ -34,10 +34,11 @@ fn turn(w: &mut [u32], at: Layout, i: usize, q: u32, top: usize, method: Method)
 }
 
 // The part q, whose chain begins at place h, is swept by pivots of kind 0 or 2. The first colour that no part has then.
-pub fn sweep(w: &mut [u32], at: Layout, h: usize, q: u32, top0: usize, method: Method) -> usize
-    requires { SomeOf at.n at.m (λ g. SweepAsk g (slicing_of method) at.base h q top0 w.old) }
-    ensures { EveryOf at.n at.m (λ g. SweepAsk g (slicing_of method) at.base h q top0 w.old → Swept g (slicing_of method) at.base q 0 0 top0 w.old w.new result) }
+pub fn sweep(w: &mut [u32], at: Layout, h: usize, q: u32, top0: usize, slicing: u32) -> usize
+    requires { SomeOf at.n at.m (λ g. SweepAsk g slicing at.base h q top0 w.old) }
+    ensures { EveryOf at.n at.m (λ g. SweepAsk g slicing at.base h q top0 w.old → Swept g slicing at.base q 0 0 top0 w.old w.new result) }
 {
+    let method = Method::of(slicing);
     let chains = at.chains();
     let mut top = top0;
     let mut i = h;

@@ -126,11 +126,12 @@ pub fn sweep(
     q: u32,
     state: u32,
     top: usize,
-    method: Method,
+    slicing: u32,
 ) -> Outcome
-    requires { SomeOf at.n at.m (λ g. DrawnAsk g (slicing_of method) at.base h q top w.old words.old) }
-    ensures { EveryOf at.n at.m (λ g. DrawnAsk g (slicing_of method) at.base h q top w.old words.old → SweptDrawn g (slicing_of method) at.base q state top w.old w.new words.new result.state result.draws result.top) }
+    requires { SomeOf at.n at.m (λ g. DrawnAsk g slicing at.base h q top w.old words.old) }
+    ensures { EveryOf at.n at.m (λ g. DrawnAsk g slicing at.base h q top w.old words.old → SweptDrawn g slicing at.base q state top w.old w.new words.new result.state result.draws result.top) }
 {
+    let method = Method::of(slicing);
     let left = set::mark(w, words, at, h, q);
     run(w, words, at, q, Rest { state, left, top }, method)
 }

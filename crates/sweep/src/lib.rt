@@ -1,6 +1,7 @@
 // A part is swept by pivots of a kind, of either method.
 #![tactic(auto)]
 
+ghost use Rattle.std.specs.Prelude.{◌≡◌, cond, eqb};
 ghost use Rattle.graph.specs.Arrows.{SomeOf, EveryOf};
 ghost use Rattle.sweep.specs.Kind.{KindAsk, KindSwept};
 ghost use Rattle.sweep.specs.Methods.{slicing_of, Reads};
@@ -34,6 +35,18 @@ impl TryFrom<u32> for Method {
     }
 }
 
+impl Method {
+    // The method that a number stands for where none is refused: 1 slices, and every other number splits.
+    pub fn of(slicing: u32) -> Method
+        ensures { slicing_of result ≡ cond (eqb slicing 1) 1 0 }
+    {
+        match slicing {
+            1 => Method::Slice,
+            _ => Method::Split,
+        }
+    }
+}
+
 // The chooser's state and the draws made, and the first colour that no part has.
 #[derive(Clone, Copy, Debug, PartialEq, Eq)]
 pub struct Outcome {
@@ -43,7 +56,7 @@ pub struct Outcome {
 }
 
 // The part q, whose chain begins at place h, is swept by pivots that the chooser chooses.
-// No struct holds `q`, `top` and `method`: the part and `top` change, so each call would make it anew.
+// No struct holds `q`, `top` and `slicing`: the part and `top` change, so each call would make it anew.
 pub fn sweep(
     w: &mut [u32],
     words: &mut [u64],
@@ -52,16 +65,16 @@ pub fn sweep(
     q: u32,
     chooser: Chooser,
     top: usize,
-    method: Method,
+    slicing: u32,
 ) -> Outcome
-    requires { SomeOf at.n at.m (λ g. KindAsk g (slicing_of method) at.base h q top w.old words.old) }
-    ensures { EveryOf at.n at.m (λ g. KindAsk g (slicing_of method) at.base h q top w.old words.old → KindSwept g (slicing_of method) at.base q chooser.kind chooser.state top w.old words.old w.new words.new result.state result.draws result.top) }
+    requires { SomeOf at.n at.m (λ g. KindAsk g slicing at.base h q top w.old words.old) }
+    ensures { EveryOf at.n at.m (λ g. KindAsk g slicing at.base h q top w.old words.old → KindSwept g slicing at.base q chooser.kind chooser.state top w.old words.old w.new words.new result.state result.draws result.top) }
 {
     if chooser.draws() {
         let k = (at.n + 63) / 64;
-        return drawn::sweep(w, &mut words[..k], at, h, q, chooser.state, top, method);
+        return drawn::sweep(w, &mut words[..k], at, h, q, chooser.state, top, slicing);
     }
-    let t = chain::sweep(w, at, h, q, top, method);
+    let t = chain::sweep(w, at, h, q, top, slicing);
     Outcome {
         state: chooser.state,
         draws: 0,
