@@ -24,11 +24,16 @@ use Rattle.split.specs.Chain.{First}
 use Rattle.split.proofs.Rings.{rings_none, rings_alone}
 use Rattle.split.proofs.Same.{labels_same, owned_alone, stage_moved}
 use Rattle.sweep.specs.Kind.{KindAsk, KindSwept}
+use Rattle.sweep.proofs.Alike.{Alike}
 use Rattle.sweep.proofs.Sweeping.{SweptSoFar, sweeps_so_far}
 use Rattle.sweep.proofs.Choice.{sweeps_choices}
 use Rattle.parts.specs.Share.{Sharing, ShareAsk}
 use Rattle.parts.specs.Divide.{MethodAsk, MakeAsk, Made, Recoloured, Division}
 use Rattle.parts.proofs.Handing.{hand_ask, hand_colour, handed}
+
+-- the number that stands for a method makes ready as the method does
+pub made_alike : {g : Graph} {s t b q : ℕ} {w w' : List ℕ} → Alike s t → Made g s b q w w' → Made g t b q w w'
+made_alike a z = ⊎_elim (λ y. inl (λ o. y.0 (a.1 o), y.1)) (λ y. inr (a.0 y.0, y.1)) z
 
 -- what trimming takes from a part is a component alone
 trim_each : {g : Graph} {b q top : ℕ} {w w' : List ℕ} {k : ℕ} → Stage g b top w → g.n ≤ q → Trimmed g b q w w' k

@@ -28,7 +28,7 @@ fn make(w: &mut [u32], at: Layout, h: usize, q: u32, method: Method)
     }
 }
 
-// The part whose first place is h is divided. No struct holds `top` and `method`: the part and `top` change, so each call would make it anew. The first places of its new parts stand from base + 8 n + 2 on.
+// The part whose first place is h is divided. No struct holds `top` and `slicing`: the part and `top` change, so each call would make it anew. The first places of its new parts stand from base + 8 n + 2 on.
 pub fn divide(
     w: &mut [u32],
     words: &mut [u64],
@@ -36,15 +36,15 @@ pub fn divide(
     h: usize,
     chooser: Chooser,
     top: usize,
-    method: Method,
+    slicing: u32,
 ) -> Divided
-    requires { SomeOf at.n at.m (λ g. MethodAsk g (slicing_of method) at.base h top w.old words.old) }
-    ensures { EveryOf at.n at.m (λ g. MethodAsk g (slicing_of method) at.base h top w.old words.old → Division g (slicing_of method) at.base chooser.kind chooser.state h top w.old words.old w.new words.new result.outcome.state result.outcome.draws result.outcome.top result.children) }
+    requires { SomeOf at.n at.m (λ g. MethodAsk g slicing at.base h top w.old words.old) }
+    ensures { EveryOf at.n at.m (λ g. MethodAsk g slicing at.base h top w.old words.old → Division g slicing at.base chooser.kind chooser.state h top w.old words.old w.new words.new result.outcome.state result.outcome.draws result.outcome.top result.children) }
 {
     let v = w[at.order() + h] as usize;
     let q = w[at.base + v];
-    make(w, at, h, q, method);
-    let outcome = sweep::sweep(w, words, at, h, q, chooser, top, method);
+    make(w, at, h, q, Method::of(slicing));
+    let outcome = sweep::sweep(w, words, at, h, q, chooser, top, slicing);
     let children = share::share(w, at, top, outcome.top, h);
     Divided { outcome, children }
 }
