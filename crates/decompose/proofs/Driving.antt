@@ -28,13 +28,13 @@ use Rattle.machine.specs.Orders.{order_of}
 use Rattle.machine.specs.Aim.{ring, aim, aimed}
 use Rattle.parts.specs.Divide.{DivideAsk, Division}
 use Rattle.machine.specs.Waits.{Waits, waiting_count, first_of}
-use Rattle.machine.specs.Machine.{base, slicing, clearing, handing, dividing, Whole, CutAsk, StepAsk, Stepped, clears, hands, divides}
+use Rattle.machine.specs.Machine.{base, clearing, handing, dividing, Whole, CutAsk, StepAsk, Stepped, clears, hands, divides}
 use Rattle.parts.proofs.Dividing.{division_divides}
 use Rattle.decompose.specs.Running.{Unsliced, Running, Traced, Went}
 use Rattle.decompose.specs.Turns.{DriveAsk, Ran, idle, ran}
 use Rattle.machine.proofs.Round.{wrapped_low, wrapped_one}
 use Rattle.machine.proofs.Waiting.{waits_few, waits_same, waits_divide, waits_divided, list_divided}
-use Rattle.machine.proofs.Cutting.{slicing_same, drawn_none, drawn_one, drawn_few, drawn_most}
+use Rattle.machine.proofs.Cutting.{drawn_none, drawn_one, drawn_few, drawn_most}
 use Rattle.machine.proofs.Aiming.{Mode, clear, hand, take, stop, mode, aim_clear, aim_hand, aim_stop, one_place, no_place, Takes, takes}
 use Rattle.decompose.proofs.Order.{order_kept}
 use Rattle.decompose.proofs.Coursing.{draws_more, agree_drawn, divides_agree, course_same, drawn_sum}
@@ -409,8 +409,8 @@ module _ {g : Graph} {c : Chooser} {ys : List Part} {num wor : List ℕ} {s : Ma
       as_listed : 0 < s.count → Division g (slicing_of s.method) (base g) c.kind s.chooser.state (first_of g.n (base g) ys num s (its s)) s.top num wor num' wor' state k top children
       as_listed p =
           subst (λ (h : ℕ). Division g (slicing_of s.method) (base g) c.kind s.chooser.state h s.top num wor num' wor' state k top children) (sym (its_first r busy a b p))
-          (subst (λ (f : ℕ). Division g f (base g) c.kind s.chooser.state (get_or ys place none).first s.top num wor num' wor' state k top children) (slicing_same (get_or ys place none) s.method (its_flag r busy a b p))
-          (subst (λ (i : ℕ). Division g (slicing (get_or ys place none)) (base g) i s.chooser.state (get_or ys place none).first s.top num wor num' wor' state k top children) r.kind v))
+          (subst (λ (f : ℕ). Division g f (base g) c.kind s.chooser.state (get_or ys place none).first s.top num wor num' wor' state k top children) (its_flag r busy a b p)
+          (subst (λ (i : ℕ). Division g (get_or ys place none).slicing (base g) i s.chooser.state (get_or ys place none).first s.top num wor num' wor' state k top children) r.kind v))
 
 module _ {g : Graph} {ys : List Part} {num wor : List ℕ} {s : Machine} where
   pub driving_begin : {b : ℕ} → DriveAsk g b ys num wor s → Ran g ys num wor s ys num wor s

@@ -17,7 +17,7 @@ use Rattle.machine.specs.declared.Machine.{Machine}
 use Rattle.machine.specs.declared.Order.{Order}
 use Rattle.machine.specs.declared.Order.TheVariants.{Newest, Oldest}
 use Rattle.machine.specs.Orders.{order_of}
-use Rattle.machine.specs.Machine.{slicing, CutAsk, ClearAsk, PartAsk, older_than}
+use Rattle.machine.specs.Machine.{CutAsk, ClearAsk, PartAsk, older_than}
 use Rattle.machine.specs.Aim.{wrapped}
 use Rattle.machine.proofs.Round.{wrapped_low}
 
@@ -25,11 +25,6 @@ use Rattle.machine.proofs.Round.{wrapped_low}
 pub method_low : (m : Method) → slicing_of m ≤ 1
 method_low Split = omega arith
 method_low Slice = omega arith
-
--- a record that has a method's number is divided by it
-pub slicing_same : (p : Part) (m : Method) → p.slicing ≡ slicing_of m → slicing p ≡ slicing_of m
-slicing_same p Split e = rw e
-slicing_same p Slice e = rw e
 
 -- the part of the record that is taken can be divided
 pub taken_part : {g : Graph} {b : ℕ} {p : Part} {s : Machine} {w ws : List ℕ} → PartAsk g b p s w ws → CutAsk g b p s.top w ws

@@ -43,10 +43,6 @@ dividing n s state k top children =
       top = top;
     }
 
--- the method by which a part is divided: 1 for the whole that has still to be sliced, else 0
-abbrev pub slicing : Part → ℕ
-slicing p = cond (eqb p.slicing 1) 1 0
-
 -- the part at h is the whole collection, of the one colour n
 pub record Whole (n b h top : ℕ) (w : List ℕ) : Type 0 where
   pub zero : h ≡ 0
@@ -87,7 +83,7 @@ pub data Stepped (g : Graph) (b : ℕ) (p : Part) (s : Machine) (num wor : List 
   clears : s.cleared < g.n → Stepped g b p s num wor num wor (aimed g.n (clearing s))
   hands : g.n ≤ s.cleared → s.given < s.pending → Stepped g b p s num wor num wor (aimed g.n (handing g.n b num s))
   divides : {num' wor' : List ℕ} {state k top children : ℕ} → g.n ≤ s.cleared → s.pending ≤ s.given
-      → Division g (slicing p) b s.chooser.kind s.chooser.state p.first s.top num wor num' wor' state k top children
+      → Division g p.slicing b s.chooser.kind s.chooser.state p.first s.top num wor num' wor' state k top children
       → Stepped g b p s num wor num' wor' (aimed g.n (dividing g.n s state k top children))
 
 -- the record is to be divided

@@ -1,8 +1,8 @@
 // The machine of the decomposer: it decides what the next turn does with the list of waiting parts.
 #![tactic(auto)]
 
-ghost use Rattle.std.specs.Prelude.{◌≡◌};
-ghost use Rattle.machine.specs.Orders.{Reads};
+ghost use Rattle.std.specs.Prelude.{◌≡◌, cond, eqb};
+ghost use Rattle.machine.specs.Orders.{order_of, Reads};
 ghost use Rattle.machine.specs.Aim.{AimAsk, wrapped, aim as aim_of, aimed as aimed_of};
 
 use graph::refusal::Refusal;
@@ -35,6 +35,18 @@ impl TryFrom<u32> for Order {
             0 => Ok(Order::Newest),
             1 => Ok(Order::Oldest),
             _ => Err(Refusal::UnknownChoice),
+        }
+    }
+}
+
+impl Order {
+    // The order that a number stands for where none is refused: 0 takes the newest, and every other number the oldest.
+    pub fn of(order: u32) -> Order
+        ensures { order_of result ≡ cond (eqb order 0) 0 1 }
+    {
+        match order {
+            0 => Order::Newest,
+            _ => Order::Oldest,
         }
     }
 }

@@ -1,10 +1,9 @@
 // One step of the machine: a record is cleared, a pending part handed out, or a part divided.
 ghost use Rattle.std.specs.Prelude.{◌≡◌};
 ghost use Rattle.graph.specs.Arrows.{SomeOf, EveryOf};
-ghost use Rattle.sweep.specs.Methods.{slicing_of};
 ghost use Rattle.parts.specs.Divide.{Division};
 ghost use Rattle.machine.specs.Aim.{aimed as aimed_of};
-ghost use Rattle.machine.specs.Machine.{slicing, clearing, handing, ClearAsk, HandAsk, CutAsk, PartAsk, StepAsk, Stepped, older_than};
+ghost use Rattle.machine.specs.Machine.{clearing, handing, ClearAsk, HandAsk, CutAsk, PartAsk, StepAsk, Stepped, older_than};
 
 use crate::{Machine, NONE, Order, wrap};
 use memory::layout::Layout;
@@ -14,17 +13,7 @@ use pivot::chooser::Chooser;
 use sweep::Method;
 use waiting::Part;
 
-// The method by which the part of a record is divided: 1 is the whole that has still to be sliced.
-fn method_of(part: Part) -> Method
-    ensures { slicing_of result ≡ slicing part }
-{
-    match part.slicing {
-        1 => Method::Slice,
-        _ => Method::Split,
-    }
-}
-
-// The part of a record is divided.
+// The part of a record is divided: by slices where it is the whole that has still to be sliced, whose number is 1.
 fn cut(
     w: &mut [u32],
     words: &mut [u64],
@@ -34,7 +23,7 @@ fn cut(
     top: usize,
 ) -> Divided
     requires { SomeOf at.n at.m (λ g. CutAsk g at.base part top w.old words.old) }
-    ensures { EveryOf at.n at.m (λ g. CutAsk g at.base part top w.old words.old → Division g (slicing part) at.base chooser.kind chooser.state part.first top w.old words.old w.new words.new result.outcome.state result.outcome.draws result.outcome.top result.children) }
+    ensures { EveryOf at.n at.m (λ g. CutAsk g at.base part top w.old words.old → Division g part.slicing at.base chooser.kind chooser.state part.first top w.old words.old w.new words.new result.outcome.state result.outcome.draws result.outcome.top result.children) }
 {
     divide::divide(
         w,
@@ -43,7 +32,7 @@ fn cut(
         part.first as usize,
         chooser,
         top,
-        method_of(part),
+        part.slicing,
     )
 }
 
