@@ -6,7 +6,7 @@ use mathlib.Core.Path.{◌≡◌, ◌∙◌}
 use mathlib.Core.List.{List}
 use borrow.Author.Tests.{eq-eqb, ne_eqb}
 use Rattle.graph.specs.Graph.{Graph}
-use Rattle.parts.specs.Divide.{Division}
+use Rattle.parts.specs.Divide.{MethodAsk, Division}
 use Rattle.waiting.specs.declared.Part.{Part}
 use mathlib.Core.Bool.{cond}
 use lib.Dec.{eqb}
@@ -25,6 +25,10 @@ use Rattle.machine.proofs.Round.{wrapped_low}
 pub method_low : (m : Method) → slicing_of m ≤ 1
 method_low Split = omega arith
 method_low Slice = omega arith
+
+-- only the whole is divided by method 1
+pub cut_ask : {g : Graph} {b slicing : ℕ} {p : Part} {top : ℕ} {w ws : List ℕ} → (slicing ≡ 1 → p.slicing ≡ 1) → CutAsk g b p top w ws → MethodAsk g slicing b p.first top w ws
+cut_ask o a = record { ask = a.ask; only = λ e. (a.whole (o e)).first }
 
 -- the part of the record that is taken can be divided
 pub taken_part : {g : Graph} {b : ℕ} {p : Part} {s : Machine} {w ws : List ℕ} → PartAsk g b p s w ws → CutAsk g b p s.top w ws
