@@ -46,7 +46,7 @@ module _ {A B : Type 0} {r : Bool} where
 abbrev pub Passes : List ℕ → Bool → ℕ → Type 0
 Passes lab r v = r ≡ check1 (label_and_rank lab []) v
 
-own_no : (lab : List ℕ) {v n : ℕ} → v < n → Passes lab false v → OwnLabels n lab → ⊥
+pub own_no : (lab : List ℕ) {v n : ℕ} → v < n → Passes lab false v → OwnLabels n lab → ⊥
 unfolding check1
 own_no lab {v} l fails o = let (p, z) = o v l in clash (check1 (label_and_rank lab []) v) (rw (le-leb _ _ p, eq-eqb _ _ z)) (sym fails)
 

@@ -22,8 +22,8 @@ use Rattle.graph.specs.declared.refusal.Refusal.{Refusal}
 use Rattle.decompose.specs.Accept.{lent_refusal, Chosen}
 use Rattle.decompose.specs.Begin.{BeginAsk}
 use Rattle.decompose.specs.declared.accept.Choice.{Choice}
-use Rattle.graph.proofs.Refusals.{or_stop, or_pass, or_none, given_none, not_lacking, table_passed, passed_valid}
-use Rattle.decompose.specs.Promise.{Call, refusal_after, refusal_on}
+use Rattle.graph.proofs.Refusals.{or_stop, or_pass, or_none, given_none, or_left_none, not_lacking, table_passed, passed_valid}
+use Rattle.decompose.specs.Promise.{Call, refusal_after, refusal_of, refusal_on}
 
 -- a call whose table and lent memory can be worked on
 pub record Lent (n : ℕ) (sources targets kinds : List ℕ) (lab parts num wor : ℕ) : Type 0 where
@@ -34,6 +34,13 @@ pub record Lent (n : ℕ) (sources targets kinds : List ℕ) (lab parts num wor 
   pub label : lab ≡ n
   pub memory : Enough n (length sources) num wor
   pub waiting : n ≤ parts
+
+-- and whose choices are known
+pub record Accepted (n : ℕ) (sources targets kinds : List ℕ) (method order kind lab parts num wor : ℕ) : Type 0 where
+  pub lent : Lent n sources targets kinds lab parts num wor
+  pub known_method : method ≤ 1
+  pub known_kind : kind ≤ 2
+  pub known_order : order ≤ 1
 
 module _ {n : ℕ} {sources targets kinds : List ℕ} {lab parts num wor : ℕ} (e : 0 ≡ lent_refusal (table_refusal n sources targets kinds) n (length sources) lab parts num wor) where
   pub lent_passed : Lent n sources targets kinds lab parts num wor
@@ -76,6 +83,20 @@ lent_or k n edges method order kind label waiting numbers words =
     let d = given list_short (ltb waiting n) in
     or_more k (a or b or d) e ∙ ap (λ (x : ℕ). k or x) (or_more a (b or d) e ∙ ap (λ (x : ℕ). a or x) (or_more b d e))
 
+-- a call that is not refused was lent what can be worked on, and its choices are known
+pub accepted : {n : ℕ} {sources targets kinds : List ℕ} {method order kind lab parts num wor : ℕ}
+    → refusal_of n sources targets kinds method order kind lab parts num wor ≡ 0 → Accepted n sources targets kinds method order kind lab parts num wor
+accepted {n} {sources} {targets} {kinds} {method} {order} {kind} {lab} {parts} {num} {wor} e =
+    let (a, f) = or_none (lent_refusal (table_refusal n sources targets kinds) n (length sources) lab parts num wor) _ (lent_or _ n (length sources) method order kind lab parts num wor ∙ e) in
+    let (f', f₃) = or_left_none (ltb 1 method || ltb 2 kind) (ltb 1 order) (given_none unknown_choice _ (λ z. omega arith) f) in
+    let (f₁, f₂) = or_left_none (ltb 1 method) (ltb 2 kind) f' in
+    record {
+      lent = lent_passed (sym a);
+      known_method = ltb-false 1 method f₁;
+      known_kind = ltb-false 2 kind f₂;
+      known_order = ltb-false 1 order f₃;
+    }
+
 -- what the choices say as a number
 chosen_said : (method order kind : ℕ) (r : Result Choice Refusal) → Chosen method order kind r → said r ≡ given unknown_choice (ltb 1 method || ltb 2 kind || ltb 1 order)
 unfolding given
@@ -105,7 +126,3 @@ module _ (c : Call) where
 
   pub refused_chosen : (r : Result Choice Refusal) → 0 ≡ lent → Chosen c.method c.order c.chooser.kind r → said r ≡ all
   refused_chosen r z x = or_ok _ _ z (chosen_said c.method c.order c.chooser.kind r x) ∙ both
-
-  -- a call that is not refused was lent what can be worked on
-  pub accepted : all ≡ 0 → Lent c.n c.sources c.targets c.kinds (length c.label) (length c.waiting) (length c.numbers) (length c.words)
-  accepted e = let (a, b) = or_none lent _ (both ∙ e) in lent_passed (sym a)

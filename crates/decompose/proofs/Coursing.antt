@@ -32,6 +32,10 @@ agree_drawn kind k state₀ {state = state} list e f n p i = elim (ℕ_discrete 
   | no q ↦ rw (ne_eqb kind 1 q)
 ]
 
+pub agree_unlisted : (state : ℕ) (list list' : List ℕ) → Agree 0 state state list list'
+unfolding pivot
+agree_unlisted state list list' n p i = refl
+
 -- kind 1 draws once for every choice, the others never: at the beginning, and after more choices
 pub drawn_first : (t : Bool) → ◌≡◌ {A = ℕ} 0 (cond t 0 0)
 drawn_first true = refl
@@ -107,6 +111,15 @@ module _ {g : Graph} {method order kind state : ℕ} {list : List ℕ} where
             sum = e;
             chosen = subst (λ (z : ℕ). Choice g o (part (next order c)) kind z list v) (draws_more (i - k) k state ∙ ap (λ (z : ℕ). draws z state) e) h;
           }
+
+-- kind 0 reads no list of vertices
+course_unlisted : {g : Graph} {method order state : ℕ} {list list' : List ℕ} {slicing top c k : ℕ} {own part : ℕ → ℕ}
+    → Course g method order 0 state list slicing own top c part k → Course g method order 0 state list' slicing own top c part k
+course_unlisted (whole f h) = whole f h
+course_unlisted {state = state} {list} {list'} (onward {k = k} c p d l) = onward (course_unlisted c) p (divides_agree (agree_unlisted (draws k state) list list') d) l
+
+pub apart_unlisted : {g : Graph} {method order state : ℕ} {list list' label : List ℕ} {k : ℕ} → TakenApart g method order 0 state list label k → TakenApart g method order 0 state list' label k
+apart_unlisted a = record { slicing = a.slicing; top = a.top; own = a.own; part = a.part; course = course_unlisted a.course; labels = a.labels }
 
 -- with no vertex the whole is empty, and divided by no choice
 pub apart_none : {g : Graph} (method order kind state : ℕ) (list label : List ℕ) → g.n ≡ 0 → TakenApart g method order kind state list label 0

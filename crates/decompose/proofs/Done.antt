@@ -16,7 +16,7 @@ use Rattle.decompose.proofs.Coursing.{course_choice}
 module _ {c : Call} {a : After} {d : ℕ} (p : Promise c a (Ok d)) where
   -- the label of v is the smallest vertex of its component
   pub done_label : (v : ℕ) → v < c.n → IsLabel (collection c) v (get_or a.label v 0)
-  done_label v l = rw p.gives.label (right_labels ((accepted c (sym p.refusal)).valid c.mask) v l)
+  done_label v l = rw p.gives.label (right_labels ((accepted (sym p.refusal)).lent.valid c.mask) v l)
 
   -- every choice was made where the course stood, and was the pivot that the pivot kind gives
   pub done_choice : (i : ℕ) → i < p.gives.choices → ChoiceAt (collection c) c.method c.order c.chooser.kind c.chooser.state c.list i

@@ -45,18 +45,18 @@ use Rattle.decompose.specs.Turns.{DriveAsk, Ran, idle, ran, Driven}
 use Rattle.decompose.specs.Begin.{layout_of, BeginAsk, Started, first_one, Begun, nothing, begun}
 use Rattle.decompose.specs.Finish.{FinishAsk, Ended}
 use Rattle.decompose.specs.Plain.{still, Plainly}
-use Rattle.decompose.specs.Promise.{Call, collection, call, after, Promise}
+use Rattle.decompose.specs.Promise.{Call, collection, After, call, after, Promise}
 use Rattle.machine.proofs.Waiting.{waits_same}
 use Rattle.machine.proofs.Cutting.{method_low}
 use Rattle.machine.proofs.Aiming.{aim_clear, no_place, stopped}
 use Rattle.decompose.proofs.Accepting.{Lent, lent_passed, lent_ask, lent, all, refused_lent, refused_chosen}
 use Rattle.decompose.proofs.Starting.{rings_begin}
-use Rattle.decompose.proofs.Coursing.{drawn_first, course_same, apart_none}
+use Rattle.decompose.proofs.Coursing.{drawn_first, course_same, apart_unlisted, apart_none}
 
 -- the machine before its first turn
 module _ {g : Graph} {kinds : List ℕ} (x : Choice) {c : Chooser} {list num wor num' wor' : List ℕ}
     (a : BeginAsk g kinds num wor) (same : kind_of x.pivots ≡ c.kind) (p : 0 < g.n) (st : Started g (kind_of x.pivots) list num wor num' wor') (ys : List Part) (l : g.n ≤ length ys) where
-  begun_running : Running g c ys num' wor' (aimed g.n (first_one g.n x c))
+  pub begun_running : Running g c ys num' wor' (aimed g.n (first_one g.n x c))
   unfolding aim draws
   begun_running =
       record {
@@ -99,15 +99,15 @@ module _ {g : Graph} {kinds : List ℕ} (x : Choice) {c : Chooser} {list num wor
       }
 
 -- the drive may begin
-begun_drive : {g : Graph} {kinds : List ℕ} {x : Choice} {c : Chooser} {list num wor num' wor' : List ℕ} {ys : List Part} {s : Machine} → BeginAsk g kinds num wor → kind_of x.pivots ≡ c.kind
+pub begun_drive : {g : Graph} {kinds : List ℕ} {x : Choice} {c : Chooser} {list num wor num' wor' : List ℕ} {ys : List Part} {s : Machine} → BeginAsk g kinds num wor → kind_of x.pivots ≡ c.kind
     → g.n ≤ length ys → Begun g x c list num wor num' wor' s → DriveAsk g (base g) ys num' wor' s
 begun_drive a e l (nothing z) = record { base = refl; ready = λ i q. absurd (no_place refl q) }
 begun_drive {x = x} {ys = ys} a e l (begun p st) = record { base = refl; ready = λ i q. begun_running x a e p st ys l }
 
 -- the lengths of lent memory stay
-record Lengths (num wor num' wor' : List ℕ) : Type 0 where
-  numbers : length num' ≡ length num
-  words : length wor' ≡ length wor
+pub record Lengths (num wor num' wor' : List ℕ) : Type 0 where
+  pub numbers : length num' ≡ length num
+  pub words : length wor' ≡ length wor
 
 begun_lengths : {g : Graph} {x : Choice} {c : Chooser} {list num wor num' wor' : List ℕ} {s : Machine} → Begun g x c list num wor num' wor' s → Lengths num wor num' wor'
 begun_lengths (nothing z) = record { numbers = refl; words = refl }
@@ -117,7 +117,7 @@ ran_lengths : {g : Graph} {ys ys' : List Part} {num wor num' wor' : List ℕ} {s
 ran_lengths (idle z) = record { numbers = refl; words = refl }
 ran_lengths (ran p r w f) = record { numbers = w.numbers_long; words = w.words_long }
 
-driven_finish : {g : Graph} {kinds : List ℕ} {x : Choice} {c : Chooser} {list lab num wor num₁ wor₁ num₂ wor₂ : List ℕ} {s e : Machine} {ys ys₁ : List Part} → BeginAsk g kinds num wor → length lab ≡ g.n
+pub driven_finish : {g : Graph} {kinds : List ℕ} {x : Choice} {c : Chooser} {list lab num wor num₁ wor₁ num₂ wor₂ : List ℕ} {s e : Machine} {ys ys₁ : List Part} → BeginAsk g kinds num wor → length lab ≡ g.n
     → Begun g x c list num wor num₁ wor₁ s → Driven g ys num₁ wor₁ s ys₁ num₂ wor₂ e → FinishAsk g.n (edges g) (base g) lab num₂ wor₂
 driven_finish a l b d =
     let p = begun_lengths b in
@@ -295,6 +295,18 @@ module _ (c : Call) {x : Choice} (z : 0 ≡ lent c) (h : Named c.method c.order 
       pub call_met : {lab₃ num₃ wor₃ : List ℕ} → Ended at.n at.m at.base c.label num₂ wor₂ lab₃ num₃ wor₃ → Promise c (after r.chooser ys₂ lab₃ num₃ wor₃) (Ok r.made)
       call_met {lab₃} {num₃} {wor₃} f = met b driven.run driven.done (subst (λ (y : Layout). Ended y.n y.m y.base c.label num₂ wor₂ lab₃ num₃ wor₃) e f)
 
-pub plainly : {n : ℕ} {src tgt kinds : List ℕ} {mask : ℕ} {lab num wor : List ℕ} {c₂ : Chooser} {ys ys₂ : List Part} {lab₃ num₃ wor₃ : List ℕ} {a : Result ℕ Refusal}
-    → ys ≡ replicate 512 none → Promise (call n src tgt kinds mask 0 0 still [] ys lab num wor) (after c₂ ys₂ lab₃ num₃ wor₃) a → Plainly n src tgt kinds mask lab num wor lab₃ num₃ wor₃ a
-plainly {c₂ = c₂} {ys₂ = ys₂} q p = record { chooser = c₂; waiting = ys₂; promise = rw q at p }
+-- pivot kind 0 reads no list of vertices
+unlisted : {n : ℕ} {src tgt kinds : List ℕ} {mask : ℕ} {list lab num wor : List ℕ} {ys : List Part} {o : After} (a : Result ℕ Refusal) → Promise (call n src tgt kinds mask 0 0 still list ys lab num wor) o a → Promise (call n src tgt kinds mask 0 0 still [] ys lab num wor) o a
+unlisted (Ok d) p =
+    let f = p.gives in
+    record {
+      refusal = p.refusal;
+      gives = record { label = f.label; choices = f.choices; course = apart_unlisted f.course; drawn = f.drawn; never = f.never; least = f.least; most = f.most; state = f.state; kind = f.kind; waiting = f.waiting; numbers = f.numbers; words = f.words };
+    }
+unlisted (Err r) p =
+    let f = p.gives in
+    record { refusal = p.refusal; gives = record { refused = f.refused; chooser = f.chooser; waiting = f.waiting; label = f.label; numbers = f.numbers; words = f.words } }
+
+pub plainly : {n : ℕ} {src tgt kinds : List ℕ} {mask : ℕ} {list lab num wor : List ℕ} {c₂ : Chooser} {ys ys₂ : List Part} {lab₃ num₃ wor₃ : List ℕ} {a : Result ℕ Refusal}
+    → ys ≡ replicate 512 none → Promise (call n src tgt kinds mask 0 0 still list ys lab num wor) (after c₂ ys₂ lab₃ num₃ wor₃) a → Plainly n src tgt kinds mask lab num wor lab₃ num₃ wor₃ a
+plainly {c₂ = c₂} {ys₂ = ys₂} {a = a} q p = record { chooser = c₂; waiting = ys₂; promise = unlisted a (rw q at p) }

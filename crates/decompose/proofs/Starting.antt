@@ -14,7 +14,7 @@ use Rattle.sets.proofs.Store.{zero_bit}
 use Rattle.index.specs.Build.{Both}
 use Rattle.index.proofs.Counts.{start_all}
 use Rattle.index.proofs.Moved.{held_kept}
-use Rattle.memory.specs.Decomposer.{col, ord, own, nxt, lst, head, chains_at, pending_at, order_at}
+use Rattle.memory.specs.Decomposer.{col, ord, own, nxt, lst, head, chains_at, lasts_at, pending_at, order_at}
 use Rattle.pivot.specs.Order.{Arranged, Ordered}
 use Rattle.pivot.proofs.Places.{arranged_same}
 use Rattle.split.specs.State.{ring, rings, Tables, Stage}
@@ -36,7 +36,7 @@ blank_zeroed {n} {ws} {ws'} l z =
 
 module _ (g : Graph) (L : List ℕ) {kinds w w₁ w₂ w₃ w₄ w₅ w₆ ws ws' : List ℕ} (ask : StartAsk g kinds w ws)
     (both : Both g w w₁) (placed : Ordered g.n L (base g) w₁ w₂)
-    (p : Put (base g) g.n (λ j. g.n) w₂ w₃) (q : Put (chains_at g.n (base g)) g.n (λ j. j + 1) w₃ w₄) (r : Put (chains_at g.n (base g) + g.n) (3 * g.n + 2) (λ j. g.n) w₄ w₅) (s : Put (pending_at g.n (base g)) 1 (λ j. 0) w₅ w₆)
+    (p : Put (base g) g.n (λ j. g.n) w₂ w₃) (q : Put (chains_at g.n (base g)) g.n (λ j. j + 1) w₃ w₄) (r : Put (lasts_at g.n (base g)) (3 * g.n + 2) (λ j. g.n) w₄ w₅) (s : Put (pending_at g.n (base g)) 1 (λ j. 0) w₅ w₆)
     (z : Zeroed (words_needed g.n) ws ws') where
   abbrev b : ℕ
   b = base g
@@ -73,7 +73,7 @@ module _ (g : Graph) (L : List ℕ) {kinds w w₁ w₂ w₃ w₄ w₅ w₆ ws ws
 
   last : (c : ℕ) → g.n ≤ c → c < 4 * g.n + 2 → lst g.n b w₆ c ≡ g.n
   last c l h =
-      let e : chains_at g.n b + c ≡ chains_at g.n b + g.n + (c - g.n) = omega arith in
+      let e : chains_at g.n b + c ≡ lasts_at g.n b + (c - g.n) = omega arith in
       s.framed.low (chains_at g.n b + c) (omega arith) ∙ ap (λ (j : ℕ). get_or w₅ j 0) e ∙ r.each (c - g.n) (omega arith)
 
   zeroth : head g.n b w₆ 0 ≡ 0
@@ -130,12 +130,12 @@ module _ (g : Graph) (L : List ℕ) {kinds w w₁ w₂ w₃ w₄ w₅ w₆ ws ws
       }
 
 -- the same where the layout is one that a call gave, and where its regions begin as it says
-pub started_at : (g : Graph) (at : Layout) (kind : ℕ) (list : List ℕ) {kinds w w₁ w₂ w₃ w₄ w₅ w₆ ws ws' : List ℕ} {k x y z : ℕ} → at ≡ layout_of g → x ≡ chains_at at.n at.base → y ≡ chains_at at.n at.base → z ≡ pending_at at.n at.base → k ≡ words_needed at.n
+pub started_at : (g : Graph) (at : Layout) (kind : ℕ) (list : List ℕ) {kinds w w₁ w₂ w₃ w₄ w₅ w₆ ws ws' : List ℕ} {k x y z : ℕ} → at ≡ layout_of g → x ≡ chains_at at.n at.base → y ≡ lasts_at at.n at.base → z ≡ pending_at at.n at.base → k ≡ words_needed at.n
     → StartAsk g kinds w ws → Both g w w₁ → Ordered at.n (list_of kind list) at.base w₁ w₂
-    → Put at.base at.n (λ j. at.n) w₂ w₃ → Put x at.n (λ j. j + 1) w₃ w₄ → Put (y + at.n) (3 * at.n + 2) (λ j. at.n) w₄ w₅ → Put z 1 (λ j. 0) w₅ w₆ → Zeroed k ws ws' → Started g kind list w ws w₆ ws'
+    → Put at.base at.n (λ j. at.n) w₂ w₃ → Put x at.n (λ j. j + 1) w₃ w₄ → Put y (3 * at.n + 2) (λ j. at.n) w₄ w₅ → Put z 1 (λ j. 0) w₅ w₆ → Zeroed k ws ws' → Started g kind list w ws w₆ ws'
 started_at g at kind list {kinds} {w} {w₁} {w₂} {w₃} {w₄} {w₅} {w₆} {ws} {ws'} {k} {x} {y} {z} e a b c d ask both =
     rw (a, b, c, d) (subst (λ (at : Layout). Ordered at.n (list_of kind list) at.base w₁ w₂
-    → Put at.base at.n (λ j. at.n) w₂ w₃ → Put (chains_at at.n at.base) at.n (λ j. j + 1) w₃ w₄ → Put (chains_at at.n at.base + at.n) (3 * at.n + 2) (λ j. at.n) w₄ w₅ → Put (pending_at at.n at.base) 1 (λ j. 0) w₅ w₆
+    → Put at.base at.n (λ j. at.n) w₂ w₃ → Put (chains_at at.n at.base) at.n (λ j. j + 1) w₃ w₄ → Put (lasts_at at.n at.base) (3 * at.n + 2) (λ j. at.n) w₄ w₅ → Put (pending_at at.n at.base) 1 (λ j. 0) w₅ w₆
     → Zeroed (words_needed at.n) ws ws' → Started g kind list w ws w₆ ws') (sym e)
     (λ o p q r s z. started g (list_of kind list) ask both o p q r s z kind list refl))
 

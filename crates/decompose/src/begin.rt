@@ -50,7 +50,7 @@ fn start(table: &Table, pivots: Pivots, list: &[u32], w: &mut [u32], words: &mut
     arrange(w, at, pivots, list);
     memory::fill(w, at.base, at.n, at.n as u32);
     memory::count(w, at.chains(), at.n, 1);
-    memory::fill(w, at.chains() + at.n, 3 * at.n + 2, at.n as u32);
+    memory::fill(w, at.lasts(), 3 * at.n + 2, at.n as u32);
     memory::fill(w, at.pending(), 1, 0);
     memory::zero_words(words, limits::words_needed(at.n));
 }

@@ -11,7 +11,7 @@ use waiting::Part;
 
 mod accept;
 mod begin;
-mod finish;
+pub mod finish;
 pub mod plain;
 mod turns;
 
@@ -36,6 +36,5 @@ pub fn decompose(
     let begun = begin::begin(table, choice, *chooser, list, numbers, words);
     let ended = turns::drive(numbers, words, at, waiting, begun);
     *chooser = ended.chooser;
-    finish::finish(numbers, words, at, label);
-    Ok(ended.made)
+    Ok(finish::finish(numbers, words, at, label, ended))
 }

@@ -9,6 +9,10 @@ queue_at n b = b + n
 abbrev pub chains_at : ℕ → ℕ → ℕ
 chains_at n b = b + 2 * n
 
+-- the last place of each part, that of part n first
+abbrev pub lasts_at : ℕ → ℕ → ℕ
+lasts_at n b = b + 3 * n
+
 -- cursors of the edges that enter each vertex, and of those that leave it
 abbrev pub entering_at : ℕ → ℕ → ℕ
 entering_at n b = b + 6 * n + 2

@@ -1,10 +1,12 @@
 // The regions of the decomposer behind the indexes: colours at the base, the queue n numbers behind them, region k at base + k n, and from ENTERING on two numbers later.
 ghost use Rattle.std.specs.Prelude.{◌≡◌, ◌<◌, ◌^◌};
-ghost use Rattle.memory.specs.Decomposer.{chains_at, entering_at, leaving_at, marks_at, pending_at, seeds_at, order_at};
+ghost use Rattle.memory.specs.Decomposer.{chains_at, lasts_at, entering_at, leaving_at, marks_at, pending_at, seeds_at, order_at};
 
 use crate::layout::Layout;
 
 const CHAINS: usize = 2;
+
+const LASTS: usize = 3;
 
 const ENTERING: usize = 6;
 
@@ -26,6 +28,14 @@ impl Layout {
         ensures { result ≡ chains_at self.n self.base }
     {
         self.base + CHAINS * self.n
+    }
+
+    // The last place of each part, that of part n first.
+    pub fn lasts(self) -> usize
+        requires { lasts_at self.n self.base < 2 ^ 64 }
+        ensures { result ≡ lasts_at self.n self.base }
+    {
+        self.base + LASTS * self.n
     }
 
     // Cursors of the edges that enter each vertex.

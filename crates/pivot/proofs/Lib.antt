@@ -1,3 +1,4 @@
+pub mod Product
 pub mod Members
 pub mod Places
 pub mod Unique

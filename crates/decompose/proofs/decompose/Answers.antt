@@ -24,4 +24,4 @@ pub finish-requires : goal.finish-requires
 finish-requires c = call_finish _ c.in_ok-accept.ensures c.in_ok-choice.ensures c.layout-at.ensures c.begin-begun.ensures c.drive-ended.ensures
 
 pub returns : goal.returns
-returns c = call_met _ c.in_ok-accept.ensures c.in_ok-choice.ensures c.layout-at.ensures c.begin-begun.ensures c.drive-ended.ensures c.finish.ensures
+returns c = rw c.finish.ensures.draws (call_met _ c.in_ok-accept.ensures c.in_ok-choice.ensures c.layout-at.ensures c.begin-begun.ensures c.drive-ended.ensures c.finish.ensures.memory)

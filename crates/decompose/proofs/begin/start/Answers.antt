@@ -9,5 +9,5 @@ both-requires c = let a = c.requires.ask in valid_both a.valid a.kinded a.small 
 
 pub returns : goal.returns
 returns c =
-    started_at (graph_of c.args.table.now) c.layout-at.result _ c.args.list.now c.layout-at.ensures c.chains.ensures c.chains-2.ensures c.pending.ensures c.words_needed.ensures
+    started_at (graph_of c.args.table.now) c.layout-at.result _ c.args.list.now c.layout-at.ensures c.chains.ensures c.lasts.ensures c.pending.ensures c.words_needed.ensures
     c.requires c.both.ensures c.arrange.ensures c.fill.ensures c.count.ensures c.fill-2.ensures c.fill-3.ensures c.zero_words.ensures
