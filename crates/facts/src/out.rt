@@ -29,7 +29,9 @@ pub fn row(rt: &impl Print, name: &str, values: &[u32]) -> io::Result<()> {
 }
 
 pub fn refused(rt: &impl Print, name: &str, r: Refusal) -> io::Result<()> {
-    println!(rt; "{name}: refused {r}")
+    print!(rt; "{name}: refused")?;
+    print!(rt; " {r}")?;
+    end(rt)
 }
 
 pub fn pair(rt: &impl Print, name: &str, a: u64, b: u64) -> io::Result<()> {
