@@ -25,7 +25,7 @@ module _ (n : ℕ) (sources targets label : List ℕ) (a : LabelAsk n sources ta
     kinds_room : length sources ≤ length kinds
     kinds_room = omega (arith, a.edges, ap length zeros ∙ length-replicate {A = ℕ} 4096 0)
 
-    kinds_taken : length sources ≡ length (take (length sources) kinds)
+    pub kinds_taken : length sources ≡ length (take (length sources) kinds)
     kinds_taken = sym (length-take-le (length sources) kinds kinds_room)
 
     kinded : Kinds (length sources) (take (length sources) kinds)

@@ -21,7 +21,7 @@ minus : (k : ℕ) → pos 0 -ℤ pos k ≡ neg_ℤ (pos k)
 minus k = +ℤ_idl (neg_ℤ (pos k))
 
 -- minus a number of 32 bits fits 64
-minus_fits : (k : ℕ) → k < 2 ^ 32 → SFits w64 (pos 0 -ℤ pos k)
+pub minus_fits : (k : ℕ) → k < 2 ^ 32 → SFits w64 (pos 0 -ℤ pos k)
 minus_fits k h = rw (minus k) (fits k h)
   where
     fits : (k : ℕ) → k < 2 ^ 32 → SFits w64 (neg_ℤ (pos k))

@@ -45,7 +45,7 @@ record Columns (n k : ℕ) (es : List Edge) : Type 0 where
   targets_low : Low n (map (λ a. a.target) es)
 
 FineEdges : ℕ → ℕ → Result (List Edge) → Type 0
-FineEdges n k (refused j) = Unit
+FineEdges n k (refused j) = j ≡ 15
 FineEdges n k (done es) = Columns n k es
 
 and_true : (a b : Bool) → (a && b) ≡ true → (a ≡ true) × (b ≡ true)
@@ -83,26 +83,52 @@ edge_fine n k a (done es) h l f =
       targets_low = low_cons n a.target (map (λ a. a.target) es) l f.targets_low;
     }
 
-entry_fine : (n : ℕ) (e : Result (Option Edge)) (k : ℕ) (after : ℕ → Result (List Edge)) → ((a : Edge) → e ≡ done (Some a) → (a.source < n) × (a.target < n)) → ((j : ℕ) → FineEdges n j (after j)) → FineEdges n k (at_entry e k after)
+cond_refused : (j : ℕ) (b : Bool) (o : Option Edge) → cond b (done o) (refused 15) ≡ refused j → j ≡ 15
+cond_refused j true o e = cc
+cond_refused j false o e = cc
+
+entry_refused : (n j : ℕ) (c : Content) → entry_of n c ≡ refused j → j ≡ 15
+unfolding entry_of
+entry_refused n j (numbers (i ∷ k ∷ [])) e = cond_refused j (inside n i && inside n k) _ e
+entry_refused n j (numbers []) e = cc
+entry_refused n j (numbers (i ∷ [])) e = cc
+entry_refused n j (numbers (i ∷ k ∷ m ∷ vs)) e = cc
+entry_refused n j faulty e = cc
+
+entry_fine : (n : ℕ) (e : Result (Option Edge)) (k : ℕ) (after : ℕ → Result (List Edge)) → ((a : Edge) → e ≡ done (Some a) → (a.source < n) × (a.target < n)) → ((j : ℕ) → e ≡ refused j → j ≡ 15) → ((j : ℕ) → FineEdges n j (after j)) → FineEdges n k (at_entry e k after)
 unfolding at_entry FineEdges
-entry_fine n (done None) k after low f = f k
-entry_fine n (refused j) k after low f = tt
-entry_fine n (done (Some a)) zero after low f = tt
-entry_fine n (done (Some a)) (suc k) after low f = let h = low a refl in edge_fine n k a (after k) h.0 h.1 (f k)
+entry_fine n (done None) k after low is f = f k
+entry_fine n (refused j) k after low is f = is j refl
+entry_fine n (done (Some a)) zero after low is f = refl
+entry_fine n (done (Some a)) (suc k) after low is f = let h = low a refl in edge_fine n k a (after k) h.0 h.1 (f k)
 
 end_fine : (n k : ℕ) (t : Bool) → eqb k 0 ≡ t → FineEdges n k (cond t (done []) (refused 15))
 unfolding FineEdges
 end_fine n k true p = record { long = sym (eqb-true k 0 p); sources_low = λ i h. absurd (omega arith); targets_low = λ i h. absurd (omega arith) }
-end_fine n k false p = tt
+end_fine n k false p = refl
 
 entries_fine : (n k : ℕ) (ls : List (List ℕ)) → FineEdges n k (entries n k ls)
 unfolding entries
 entries_fine n k [] = end_fine n k (eqb k 0) refl
-entries_fine n k (w ∷ ls) = entry_fine n (entry_of n (content w)) k (λ j. entries n j ls) (λ a. entry_low n a (content w)) (λ j. entries_fine n j ls)
+entries_fine n k (w ∷ ls) = entry_fine n (entry_of n (content w)) k (λ j. entries n j ls) (λ a. entry_low n a (content w)) (λ j. entry_refused n j (content w)) (λ j. entries_fine n j ls)
 
 pub entries_count : (n k : ℕ) (ls : List (List ℕ)) (es : List Edge) → entries n k ls ≡ done es → length es ≡ k
 unfolding FineEdges
 entries_count n k ls es e = let f : Columns n k es = rw e at (entries_fine n k ls) in f.long
+
+-- a reading that is no refusal
+unfoldable pub is_done : {A : Type 0} → Result A → Bool
+is_done (refused k) = false
+is_done (done a) = true
+
+-- the entries are refused by 15 alone
+pub entries_refused : (n k : ℕ) (ls : List (List ℕ)) → is_done (entries n k ls) ≡ false → entries n k ls ≡ refused 15
+unfolding FineEdges is_done
+entries_refused n k ls = go (entries n k ls) (entries_fine n k ls)
+  where
+    go : (r : Result (List Edge)) → FineEdges n k r → is_done r ≡ false → r ≡ refused 15
+    go (refused j) f q = ap refused f
+    go (done es) f q = cc
 
 -- the size line
 record Taken (l : Limits) (n m : ℕ) : Type 0 where

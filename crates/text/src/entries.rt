@@ -17,7 +17,6 @@ pub struct Edge {
 }
 
 // Is i the number of one of n vertices, counted from 1?
-#[tactic(auto, using(crate::proofs::Edges::inside_none, crate::proofs::Edges::inside_some))]
 fn inside(i: u32, n: usize) -> bool
     ensures { result ≡ inside n i }
 {
