@@ -74,3 +74,10 @@ pub ahead_other : {w : List ℕ} {n v rest u k : ℕ} → Ahead w n v rest u k �
 ahead_other {w} {u = u} a o =
     let z : bit w u ≡ 0 = zero_bit w u (λ e. absurd (cc (o, eq-eqb (bit w u) 1 e))) in
     record { low = omega (arith, z, a.low, bits_next w u); same = omega (arith, z, a.same, bits_next w u) }
+
+-- where as many members stand before the one sought as the bit counts, it is passed over; where fewer, it is the one
+pub ahead_passed : {w : List ℕ} {n v rest u k : ℕ} → Ahead w n v rest u k → bit w u ≤ k → Ahead w n v rest (u + 1) (k - bit w u)
+ahead_passed {w} {u = u} a h = record { low = omega (arith, a.low, bits_next w u); same = omega (arith, a.same, bits_next w u) }
+
+pub ahead_here : {w : List ℕ} {n v rest u k : ℕ} → Ahead w n v rest u k → u < n → k < bit w u → Found w n v rest u
+ahead_here {w} {u = u} a l h = ahead_found a l (omega (arith, bit_lt w u)) (omega (arith, bit_lt w u))
