@@ -67,7 +67,8 @@ fn erase(w: &[u32], words: &mut [u64], along: Direction, k: usize, size: usize) 
     left
 }
 
-// `paint::search` in the part of the colour a from p, where the set loses what is painted.
+// `paint::search` in the part of the colour a from p, where the set loses what is painted. In line, so that direction and map are not put into memory for each pivot.
+#[inline(always)]
 pub fn search(
     w: &mut [u32],
     words: &mut [u64],
