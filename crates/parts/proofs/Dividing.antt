@@ -24,7 +24,7 @@ use Rattle.split.specs.Chain.{First}
 use Rattle.split.proofs.Rings.{rings_none, rings_alone}
 use Rattle.split.proofs.Same.{labels_same, owned_alone, stage_moved}
 use Rattle.sweep.specs.Kind.{KindAsk, KindSwept}
-use Rattle.sweep.proofs.Alike.{Alike}
+use Rattle.sweep.proofs.Alike.{Alike, sweeps_alike}
 use Rattle.sweep.proofs.Sweeping.{SweptSoFar, sweeps_so_far}
 use Rattle.sweep.proofs.Choice.{sweeps_choices}
 use Rattle.parts.specs.Share.{Sharing, ShareAsk}
@@ -34,6 +34,27 @@ use Rattle.parts.proofs.Handing.{hand_ask, hand_colour, handed}
 -- the number that stands for a method makes ready as the method does
 pub made_alike : {g : Graph} {s t b q : ℕ} {w w' : List ℕ} → Alike s t → Made g s b q w w' → Made g t b q w w'
 made_alike a z = ⊎_elim (λ y. inl (λ o. y.0 (a.1 o), y.1)) (λ y. inr (a.0 y.0, y.1)) z
+
+-- and a part that is divided by it is divided by the method
+pub division_alike : {g : Graph} {s t b kind state h top : ℕ} {w ws w' ws' : List ℕ} {state' k top' children : ℕ}
+    → Alike s t → Division g s b kind state h top w ws w' ws' state' k top' children → Division g t b kind state h top w ws w' ws' state' k top' children
+division_alike a z = record {
+  first = z.first;
+  handed = z.handed;
+  ready = z.ready;
+  made = made_alike a z.made;
+  swept = z.swept;
+  pivots = z.pivots;
+  sweeps = sweeps_alike a z.sweeps;
+  drawn = z.drawn;
+  advanced = z.advanced;
+  colours = z.colours;
+  most = z.most;
+  many = z.many;
+  few = λ o. z.few (λ e. o (a.0 e));
+  some = λ o. z.some (λ e. o (a.0 e));
+  alone = λ e. z.alone (a.1 e);
+}
 
 -- what trimming takes from a part is a component alone
 trim_each : {g : Graph} {b q top : ℕ} {w w' : List ℕ} {k : ℕ} → Stage g b top w → g.n ≤ q → Trimmed g b q w w' k

@@ -51,7 +51,7 @@ module _ {g : Graph} {s t b q : ℕ} (a : Alike s t) where
   pub turned_alike : (i : ℕ) {top top' : ℕ} {w w' : List ℕ} → Turned g s b i q top w w' top' → Turned g t b i q top w w' top'
   turned_alike i z = ⊎_elim (λ y. inl (y.0, taken_alike y.1)) (λ y. inr y) z
 
-  sweeps_alike : {kind state top : ℕ} {w : List ℕ} {k top' : ℕ} {w' : List ℕ} → Sweeps g s b q kind state top w k top' w' → Sweeps g t b q kind state top w k top' w'
+  pub sweeps_alike : {kind state top : ℕ} {w : List ℕ} {k top' : ℕ} {w' : List ℕ} → Sweeps g s b q kind state top w k top' w' → Sweeps g t b q kind state top w k top' w'
   sweeps_alike unswept = unswept
   sweeps_alike (taken p x l e c z) = taken p (sweeps_alike x) l e c (taken_alike z)
 
