@@ -35,7 +35,7 @@ use Rattle.parts.proofs.Handing.{hand_ask, hand_colour, handed}
 pub made_alike : {g : Graph} {s t b q : ℕ} {w w' : List ℕ} → Alike s t → Made g s b q w w' → Made g t b q w w'
 made_alike a z = ⊎_elim (λ y. inl (λ o. y.0 (a.1 o), y.1)) (λ y. inr (a.0 y.0, y.1)) z
 
--- and a part that is divided by it is divided by the method
+-- and of two numbers of which both are 1, or neither, what is divided by one is divided by the other: no proof here needs it, a caller that knows a part by its method does
 pub division_alike : {g : Graph} {s t b kind state h top : ℕ} {w ws w' ws' : List ℕ} {state' k top' children : ℕ}
     → Alike s t → Division g s b kind state h top w ws w' ws' state' k top' children → Division g t b kind state h top w ws w' ws' state' k top' children
 division_alike a z = record {
